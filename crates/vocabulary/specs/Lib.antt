@@ -1,0 +1,4 @@
+pub mod Crews
+pub mod Hits
+pub mod Kinds
+pub mod Refusals
