@@ -1,0 +1,3 @@
+pub mod CutLaws
+pub mod PlaceLaws
+pub mod RowLaws

@@ -1,0 +1,8 @@
+// Cards and sheets: texts cut into lines and fields, what each line says, and the fault of a text that breaks the format.
+mod cut;
+pub mod element;
+pub mod fault;
+pub mod fields;
+mod number;
+pub mod reader;
+pub mod sheet;
