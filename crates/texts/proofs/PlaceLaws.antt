@@ -5,13 +5,13 @@ use native.Mathlib.Numerals.{add-one}
 use mathlib.Core.Path.{_≡_, refl, sym, ap, _∙_}
 use mathlib.Core.Bool.{Bool, true, false, cond}
 use mathlib.Core.List.{List, [], _∷_}
+use lib.Dec.{eqb}
 use lib.ListN.{length, take, drop}
-use Rattle.std.proofs.shelf.Lists.{drop-drop, length-drop, nil-from-length}
+use Rattle.std.proofs.shelf.Lists.{drop-drop, length-drop}
 use Rattle.std.proofs.shelf.Tests.{lt-ltb, le-ltb}
-use Rattle.std.specs.declared.result.Result.the-variants.{Err}
+use Rattle.std.proofs.shelf.Ways.{tells}
 use Rattle.texts.specs.Cuts.{before, after, has}
-use Rattle.texts.specs.Faults.{Spot}
-use Rattle.texts.specs.Places.{noRest}
+use Rattle.texts.specs.Places.{isNone}
 use Rattle.texts.proofs.CutLaws.{has-is, after-is, before-is, before-le}
 
 -- a text xs read up to a, with n bytes before the next byte 10
@@ -33,10 +33,10 @@ module _ (xs : List ℕ) (a n : ℕ) (here : n ≡ length (before 10 (drop a xs)
     let e : a + suc (length (before 10 (drop a xs))) ≡ a + n + 1 = omega arith in
     sym (after-is 10 (drop a xs) ∙ drop-drop (suc (length (before 10 (drop a xs)))) a xs ∙ ap (λ k. drop k xs) e)
 
--- a text that is read to its end, and one that is not
-pub rest-none : (xs : List ℕ) (a : ℕ) → length xs ≤ a → drop a xs ≡ []
-rest-none xs a l = nil-from-length (drop a xs) (omega (arith, length-drop a xs))
-
-pub rest-some : (s : Spot) (zs : List ℕ) → 0 < length zs → noRest s zs ≡ Err s
-rest-some s [] l = grind arith
-rest-some s (z ∷ zs) l = refl
+-- nothing is left of a text exactly where all of it was read
+pub rest-none : (xs : List ℕ) (a : ℕ) → a ≤ length xs → eqb a (length xs) ≡ isNone (drop a xs)
+rest-none xs a l = by-cases (drop a xs) (length-drop a xs)
+  where
+    by-cases : (zs : List ℕ) → length zs ≡ length xs - a → eqb a (length xs) ≡ isNone zs
+    by-cases [] e = grind (arith, tells)
+    by-cases (z ∷ zs) e = grind (arith, tells)

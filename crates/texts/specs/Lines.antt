@@ -73,3 +73,8 @@ endAt v = noneLeft (badRow v) (v .left)
 abbrev pub bare : Result (RefT (List ℕ)) Bad → Result (List ℕ) Bad
 bare (Ok w) = Ok (now w)
 bare (Err b) = Err b
+
+-- one rule after another, up to the first bad field
+abbrev pub andThen : {A B E : Type 0} → Result A E → (A → Result B E) → Result B E
+andThen (Ok a) rule = rule a
+andThen (Err e) rule = Err e

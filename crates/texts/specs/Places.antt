@@ -21,16 +21,18 @@ pub record Place : Type 0 where
   pub name : TextName
   -- where the text lies
   pub origin : ℕ × ℕ
+  -- how many bytes the whole text has
+  pub total : ℕ
   pub lines : ℕ
   pub start : ℕ
   pub rest : List ℕ
 
 abbrev pub opening : TextName → RefT (List ℕ) → Place
-opening name text = record { name = name; origin = ptr text; lines = 0; start = 0; rest = now text }
+opening name text = record { name = name; origin = ptr text; total = length (now text); lines = 0; start = 0; rest = now text }
 
 -- the place that the code's reader stands for
 abbrev pub place : Reader → Place
-place r = record { name = r .name; origin = ptr (r .text); lines = r .lines; start = r .at; rest = drop (r .at) (now (r .text)) }
+place r = record { name = r .name; origin = ptr (r .text); total = length (now (r .text)); lines = r .lines; start = r .at; rest = drop (r .at) (now (r .text)) }
 
 -- a line with its number, its bytes and where they lie
 pub record LineSpot : Type 0 where
@@ -64,19 +66,29 @@ lineAt p = cond (has 10 (p .rest)) (Ok (wholeLine p)) (Err (badLine (wholeLine p
 
 -- the place after the next line
 abbrev pub nextPlace : Place → Place
-nextPlace p = record { name = p .name; origin = p .origin; lines = p .lines + 1; start = p .start + length (before 10 (p .rest)) + 1; rest = after 10 (p .rest) }
+nextPlace p = record { name = p .name; origin = p .origin; total = p .total; lines = p .lines + 1; start = p .start + length (before 10 (p .rest)) + 1; rest = after 10 (p .rest) }
 
 abbrev pub afterLine : Place → Place
 afterLine p = cond (has 10 (p .rest)) (nextPlace p) p
 
+-- whether nothing is left
+abbrev pub isNone : List ℕ → Bool
+isNone [] = true
+isNone (x ∷ xs) = false
+
 -- no line is left; a surplus one is a fault
-abbrev pub noRest : Spot → List ℕ → Result (Unit {0}) Spot
-noRest s [] = Ok tt
-noRest s (x ∷ xs) = Err s
-
 abbrev pub endOfText : Place → Result (Unit {0}) Spot
-endOfText p = noRest (badLine (wholeLine p) firstField) (p .rest)
+endOfText p = cond (isNone (p .rest)) (Ok tt) (Err (badLine (wholeLine p) firstField))
 
--- a text has at most 65,536 bytes; a longer one is bad at line 0, field 0, with an empty part at its start
-abbrev pub sizeOf : TextName → RefT (List ℕ) → Result (Unit {0}) Spot
-sizeOf name text = cond (ltb 65536 (length (now text))) (Err (record { text = name; line = 0; field = 0; number = Format; part = []; address = ptr text })) (Ok tt)
+-- a text has at most 65,536 bytes
+abbrev pub tooLong : Place → Bool
+tooLong p = ltb 65536 (p .total)
+
+-- a longer one is bad at line 0, field 0, with an empty part at its start
+abbrev pub sizeOf : Place → Result (Unit {0}) Spot
+sizeOf p = cond (tooLong p) (Err (record { text = p .name; line = 0; field = 0; number = Format; part = []; address = p .origin })) (Ok tt)
+
+-- a line of which a rule for its fields gave a value or named the bad one
+abbrev pub judgedLine : {A : Type 0} → LineSpot → Result A Bad → Result A Spot
+judgedLine l (Ok a) = Ok a
+judgedLine l (Err b) = Err (badLine l b)

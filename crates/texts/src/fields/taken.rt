@@ -1,7 +1,6 @@
 ghost use mathlib.Core.Path.{_≡_};
-ghost use denote.Ref.{now};
-ghost use Prim.Native.Nat.{_+_, _<_, _≤_};
-ghost use Rattle.texts.specs.Cuts.{cut};
+ghost use Prim.Native.Nat.{_≤_};
+ghost use Rattle.std.specs.Vec.{made};
 ghost use Rattle.texts.specs.Lines.{row, rowOf, nextRow, badRow, wordAt, numberAt, coordinateAt, endAt, bare};
 use crate::cut::length_before;
 use crate::fault::Bad;
@@ -19,7 +18,7 @@ impl<'t> Fields<'t> {
     }
 
     // The fault of the field that comes next, also where there is none.
-    fn next_bad(&self) -> Bad
+    pub(crate) fn next_bad(&self) -> Bad
         ensures { λ r. ⌜ r ≡ badRow (row (now (self .entry))) ⌝ }
     {
         Bad { field: self.taken + 1, number: Refusal::Format }
@@ -49,6 +48,7 @@ impl<'t> Fields<'t> {
     // The next field as a number from `low` to `high`.
     pub(crate) fn number(&mut self, low: u64, high: u64) -> Result<u64, Bad>
         ensures value { λ r. ⌜ r ≡ numberAt low high (row (now (self .entry))) ⌝ }
+        ensures bound { λ r. ⌜ made r (λ n. n ≤ high) ⌝ }
         ensures after { λ _. ⌜ row (now (self .exit)) ≡ nextRow (row (now (self .entry))) ⌝ }
     {
         let bad = self.next_bad();

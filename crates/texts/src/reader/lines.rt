@@ -2,7 +2,7 @@ ghost use mathlib.Core.Path.{_≡_};
 ghost use denote.Ref.{ptr};
 ghost use Rattle.texts.specs.Lines.{row, rowOf};
 ghost use Rattle.texts.specs.Faults.{spotOf, placed};
-ghost use Rattle.texts.specs.Places.{place, opening, lineSpot, lined, badLine, wholeLine, lineAt, afterLine, endOfText, sizeOf};
+ghost use Rattle.texts.specs.Places.{place, opening, lineSpot, lined, badLine, wholeLine, lineAt, afterLine, endOfText, sizeOf, judgedLine, isNone};
 use crate::cut::length_before;
 use crate::fault::Bad;
 use crate::fault::Fault;
@@ -32,6 +32,16 @@ impl<'t> Line<'t> {
     {
         Fault { text: self.text, line: self.number, field: bad.field, number: bad.number, part: self.bytes }
     }
+
+    // What a rule for its fields gave, or the fault of the field that it named.
+    pub(crate) fn judged<A>(&self, given: Result<A, Bad>) -> Result<A, Fault<'t>>
+        ensures { λ r. ⌜ placed r ≡ judgedLine (lineSpot (now (self .entry))) given ⌝ }
+    {
+        match given {
+            Ok(value) => Ok(value),
+            Err(bad) => Err(self.fault(bad)),
+        }
+    }
 }
 
 impl<'t> Reader<'t> {
@@ -44,7 +54,7 @@ impl<'t> Reader<'t> {
 
     // That the text is not too long. A text that is too long is bad at line 0, field 0.
     pub(crate) fn size(&self) -> Result<(), Fault<'t>>
-        ensures { λ r. ⌜ placed r ≡ sizeOf (now (self .entry) .name) (now (self .entry) .text) ⌝ }
+        ensures { λ r. ⌜ placed r ≡ sizeOf (place (now (self .entry))) ⌝ }
     {
         if self.text.len() > LONGEST {
             return Err(Fault { text: self.name, line: 0, field: 0, number: Refusal::Format, part: &self.text[0..0] });
@@ -52,8 +62,15 @@ impl<'t> Reader<'t> {
         Ok(())
     }
 
+    // Whether no line is left.
+    pub(crate) fn is_read(&self) -> bool
+        ensures { λ r. ⌜ r ≡ isNone (place (now (self .entry)) .rest) ⌝ }
+    {
+        self.at == self.text.len()
+    }
+
     // The next line as it stands, ended or not; at the text's end an empty one.
-    fn next_line(&self) -> Line<'t>
+    fn whole_line(&self) -> Line<'t>
         ensures { λ r. ⌜ lineSpot r ≡ wholeLine (place (now (self .entry))) ⌝ }
     {
         let text = self.text;
@@ -67,7 +84,7 @@ impl<'t> Reader<'t> {
         ensures value { λ r. ⌜ lined r ≡ lineAt (place (now (self .entry))) ⌝ }
         ensures after { λ _. ⌜ place (now (self .exit)) ≡ afterLine (place (now (self .entry))) ⌝ }
     {
-        let line = self.next_line();
+        let line = self.whole_line();
         let end = self.at + line.bytes.len();
         if end == self.text.len() {
             return Err(line.fault(BAD_LINE));
@@ -81,9 +98,9 @@ impl<'t> Reader<'t> {
     pub(crate) fn end(&self) -> Result<(), Fault<'t>>
         ensures { λ r. ⌜ placed r ≡ endOfText (place (now (self .entry))) ⌝ }
     {
-        if self.at == self.text.len() {
+        if self.is_read() {
             return Ok(());
         }
-        Err(self.next_line().fault(BAD_LINE))
+        Err(self.whole_line().fault(BAD_LINE))
     }
 }

@@ -13,10 +13,10 @@ pub returns-then-end-self : need.returns-then-end-self
 returns-then-end-self c =
     let self = c .args .self .now in
     let xs = self .text .now in
-    let here : length (c .next-line-line .result .bytes .now) ≡ length (before 10 (drop (self .at) xs)) = ap (λ l. length (l .bytes)) (c .next-line-line .ensures) in
-    let no-end = line-unended xs (self .at) (length (c .next-line-line .result .bytes .now)) here (omega arith) in
+    let here : length (c .whole-line-line .result .bytes .now) ≡ length (before 10 (drop (self .at) xs)) = ap (λ l. length (l .bytes)) (c .whole-line-line .ensures) in
+    let no-end = line-unended xs (self .at) (length (c .whole-line-line .result .bytes .now)) here (omega arith) in
     record {
-      value = rw no-end (ap Err (c .fault .ensures ∙ ap (λ l. badLine l firstField) (c .next-line-line .ensures)));
+      value = rw no-end (ap Err (c .fault .ensures ∙ ap (λ l. badLine l firstField) (c .whole-line-line .ensures)));
       after = rw no-end refl;
     }
 
@@ -24,8 +24,8 @@ pub ghost-self : need.ghost-self
 ghost-self c =
     let self = c .args .self .now in
     let xs = self .text .now in
-    let here : length (c .next-line-line .result .bytes .now) ≡ length (before 10 (drop (self .at) xs)) = ap (λ l. length (l .bytes)) (c .next-line-line .ensures) in
-    let l = line-within xs (self .at) (length (c .next-line-line .result .bytes .now)) here (self .within) in
+    let here : length (c .whole-line-line .result .bytes .now) ≡ length (before 10 (drop (self .at) xs)) = ap (λ l. length (l .bytes)) (c .whole-line-line .ensures) in
+    let l = line-within xs (self .at) (length (c .whole-line-line .result .bytes .now)) here (self .within) in
     let ne = c .if-end-self .left in
     (grind arith, (omega (arith, self .counted), tt))
 
@@ -33,12 +33,12 @@ pub returns : need.returns
 returns c =
     let self = c .args .self .now in
     let xs = self .text .now in
-    let n = length (c .next-line-line .result .bytes .now) in
-    let here : length (c .next-line-line .result .bytes .now) ≡ length (before 10 (drop (self .at) xs)) = ap (λ l. length (l .bytes)) (c .next-line-line .ensures) in
+    let n = length (c .whole-line-line .result .bytes .now) in
+    let here : length (c .whole-line-line .result .bytes .now) ≡ length (before 10 (drop (self .at) xs)) = ap (λ l. length (l .bytes)) (c .whole-line-line .ensures) in
     let l = line-within xs (self .at) n here (self .within) in
     let ne = c .if-end-self .left in
     let ended = line-ended xs (self .at) n here (grind arith) in
     record {
-      value = rw ended (ap Ok (c .next-line-line .ensures));
+      value = rw ended (ap Ok (c .whole-line-line .ensures));
       after = rw (ended, ← here, rest-after xs (self .at) n here) refl;
     }

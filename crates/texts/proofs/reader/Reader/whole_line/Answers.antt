@@ -4,7 +4,7 @@ use Prim.Native.Nat.{_+_}
 use lib.ListN.{length}
 use Rattle.texts.specs.Cuts.{before}
 use Rattle.texts.proofs.PlaceLaws.{line-bytes}
-use Rattle.texts.proofs.reader.Reader.next_line.Needs as need
+use Rattle.texts.proofs.reader.Reader.whole_line.Needs as need
 
 pub returns : need.returns
 returns c =
