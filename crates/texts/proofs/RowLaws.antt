@@ -2,7 +2,7 @@
 use Prim.Native.Nat.{ℕ, _+_, _-_, _<_, _≤_, suc}
 use native.Mathlib.Numerals.{add-one}
 use mathlib.Core.Path.{_≡_, refl, ap, _∙_}
-use mathlib.Core.Bool.{Bool, true, cond}
+use mathlib.Core.Bool.{Bool, true, false, cond, not}
 use mathlib.Core.List.{List, [], _∷_}
 use lib.ListN.{length, take, drop}
 use Rattle.std.proofs.shelf.Lists.{take-rest, drop-drop}
@@ -11,7 +11,7 @@ use Rattle.std.specs.declared.result.Result.{Result}
 use Rattle.std.specs.declared.result.Result.the-variants.{Ok}
 use Rattle.texts.specs.declared.fault.Bad.{Bad}
 use Rattle.texts.specs.Cuts.{before, cut}
-use Rattle.texts.specs.Lines.{Row, wordAt, nextRow}
+use Rattle.texts.specs.Lines.{Row, wordAt, nextRow, noFields}
 use Rattle.texts.proofs.CutLaws.{cut-step, has-is, after-is, before-is}
 
 -- what stands after a tab at n
@@ -28,3 +28,8 @@ module _ (xs : List ℕ) (m : Bool) (t n : ℕ) (some : m ≡ true) (here : n �
 
   pub next-last : length xs ≤ n → _≡_ {A = Row} (record { left = []; taken = t + 1 }) (nextRow (record { left = cond m (cut 9 xs) []; taken = t }))
   next-last l = rw (some, cut-step 9 xs, has-is 9 xs, ← here, le-ltb n (length xs) l) refl
+
+-- a row is empty exactly where no field is left
+pub row-empty : (m : Bool) (xs : List ℕ) → not m ≡ noFields (cond m (cut 9 xs) [])
+row-empty true xs = rw (cut-step 9 xs) refl
+row-empty false xs = refl

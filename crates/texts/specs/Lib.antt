@@ -1,8 +1,11 @@
+pub mod Cards
 pub mod Cuts
 pub mod Elements
 pub mod Faults
+pub mod Heads
 pub mod Lines
 pub mod Numbers
 pub mod Places
 pub mod Sheets
 pub mod Words
+pub mod Workers

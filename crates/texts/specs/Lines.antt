@@ -61,6 +61,11 @@ numberAt low high v = byRule (badRow v) (λ x. within low high (numberOf x)) (v 
 abbrev pub coordinateAt : Row → Result ℤ Bad
 coordinateAt v = byRule (badRow v) coordinateOf (v .left)
 
+-- whether no field is left
+abbrev pub noFields : List (List ℕ) → Bool
+noFields [] = true
+noFields (x ∷ xs) = false
+
 -- no field is left; the first that is left is the bad one
 abbrev pub noneLeft : Bad → List (List ℕ) → Result (Unit {0}) Bad
 noneLeft bad [] = Ok tt

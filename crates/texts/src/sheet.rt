@@ -29,7 +29,7 @@ pub enum SheetLine<T> {
 }
 
 // The last field of a line, as a number from `low` to `high`.
-fn last_number(fields: Fields<'_>, low: u64, high: u64) -> Result<u64, Bad>
+pub(crate) fn last_number(fields: Fields<'_>, low: u64, high: u64) -> Result<u64, Bad>
     ensures value { λ r. ⌜ r ≡ lastNumber low high (row (fields .entry)) ⌝ }
     ensures bound { λ r. ⌜ made r (λ n. n ≤ high) ⌝ }
 {

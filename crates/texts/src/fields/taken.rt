@@ -1,7 +1,7 @@
 ghost use mathlib.Core.Path.{_≡_};
 ghost use Prim.Native.Nat.{_≤_};
 ghost use Rattle.std.specs.Vec.{made};
-ghost use Rattle.texts.specs.Lines.{row, rowOf, nextRow, badRow, wordAt, numberAt, coordinateAt, endAt, bare};
+ghost use Rattle.texts.specs.Lines.{row, rowOf, nextRow, badRow, wordAt, numberAt, coordinateAt, endAt, bare, noFields};
 use crate::cut::length_before;
 use crate::fault::Bad;
 use crate::fields::Fields;
@@ -70,6 +70,13 @@ impl<'t> Fields<'t> {
             Some(c) => Ok(c),
             None => Err(bad),
         }
+    }
+
+    // Whether no field is left.
+    pub(crate) fn is_empty(&self) -> bool
+        ensures { λ r. ⌜ r ≡ noFields (row (now (self .entry)) .left) ⌝ }
+    {
+        !self.more
     }
 
     // That no field is left. The first that is left is a fault.

@@ -25,7 +25,7 @@ impl Crew {
     pub fn allowance(self) -> u32
         ensures { λ r. ⌜ r ≡ allowance (self .n) ⌝ }
     {
-        let n = self.n as u32;
+        let n = self.size() as u32;
         100 * n * (n + 1)
     }
 }
