@@ -9,7 +9,7 @@ use mathlib.Core.List.{List, [], _∷_, _++_}
 use lib.Dec.{eqb, ltb}
 use lib.ListN.{length, take, drop, getD}
 use Rattle.std.proofs.shelf.Lists.{at-drop-more}
-use Rattle.std.proofs.shelf.Tests.{cases-bool, eq-eqb, ne-eqb}
+use Rattle.std.proofs.shelf.Tests.{both-ways, cases-bool, eq-eqb, ne-eqb}
 use Rattle.std.proofs.shelf.Ways.{tells}
 use Rattle.texts.specs.Cuts.{before, after, has, cut, onto}
 
@@ -44,3 +44,8 @@ pub length-before-more : (s : ℕ) (xs : List ℕ) (i : ℕ) → i < length xs �
 length-before-more s xs i l n =
     let step : before s (drop i xs) ≡ cond (eqb (getD xs i 0) s) [] (getD xs i 0 ∷ before s (drop (i + 1) xs)) = at-drop-more (before s) xs i 0 l in
     rw (step, ne-eqb (getD xs i 0) s n) (omega arith)
+
+-- what comes after a separator is shorter
+pub after-shorter : (s : ℕ) (xs : List ℕ) → has s xs ≡ true → length (after s xs) < length xs
+after-shorter s [] h = absurd (both-ways false refl h)
+after-shorter s (x ∷ xs) h = let r = after-shorter s xs in elim (cases-bool (eqb x s)) [ inl t ↦ rw t (omega arith) | inr f ↦ rw f (let q = r (rw f at h) in omega arith) ]

@@ -3,4 +3,5 @@ pub mod FrameLaws
 pub mod Gathers
 pub mod PlaceLaws
 pub mod RowLaws
+pub mod SheetLaws
 pub mod WorkerLaws

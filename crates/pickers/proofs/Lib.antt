@@ -1,0 +1,3 @@
+pub mod FrameLaw
+pub mod Rows
+pub mod Waiting

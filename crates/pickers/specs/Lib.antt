@@ -1,0 +1,5 @@
+pub mod Fills
+pub mod Frames
+pub mod Meaning
+pub mod Turns
+pub mod Waits
