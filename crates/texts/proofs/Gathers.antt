@@ -31,17 +31,17 @@ module _ (us : List ℕ) (w : ℕ) where
 
   kept-room : length us < 65 → kept (keptAll us) w ≡ keptAll (us ++ w ∷ [])
   kept-room l =
-    let n = length-map us byteOf in
-    let whole : take 65 (map byteOf us) ≡ map byteOf us = take-all 65 (map byteOf us) (omega arith) in
-    let longer : take 65 (map byteOf us ++ byteOf w ∷ []) ≡ map byteOf us ++ byteOf w ∷ [] = take-all 65 (map byteOf us ++ byteOf w ∷ []) (omega (arith, length-append (map byteOf us) (byteOf w ∷ []))) in
-    rw (joined, longer, whole, n, lt-ltb (length us) 65 l) refl
+      let n = length-map us byteOf in
+      let whole : take 65 (map byteOf us) ≡ map byteOf us = take-all 65 (map byteOf us) (omega arith) in
+      let longer : take 65 (map byteOf us ++ byteOf w ∷ []) ≡ map byteOf us ++ byteOf w ∷ [] = take-all 65 (map byteOf us ++ byteOf w ∷ []) (omega (arith, length-append (map byteOf us) (byteOf w ∷ []))) in
+      rw (joined, longer, whole, n, lt-ltb (length us) 65 l) refl
 
   kept-full : 65 ≤ length us → kept (keptAll us) w ≡ keptAll (us ++ w ∷ [])
   kept-full l =
-    let n = length-map us byteOf in
-    let full : length (take 65 (map byteOf us)) ≡ 65 = length-take-le 65 (map byteOf us) (omega arith) in
-    let same : take 65 (map byteOf us ++ byteOf w ∷ []) ≡ take 65 (map byteOf us) = take-append-le 65 (map byteOf us) (byteOf w ∷ []) (omega arith) in
-    rw (joined, same, full) refl
+      let n = length-map us byteOf in
+      let full : length (take 65 (map byteOf us)) ≡ 65 = length-take-le 65 (map byteOf us) (omega arith) in
+      let same : take 65 (map byteOf us ++ byteOf w ∷ []) ≡ take 65 (map byteOf us) = take-append-le 65 (map byteOf us) (byteOf w ∷ []) (omega arith) in
+      rw (joined, same, full) refl
 
   kept-more : kept (keptAll us) w ≡ keptAll (us ++ w ∷ [])
   kept-more = elim (cases-lt (length us) 65) [ inl l ↦ kept-room l | inr l ↦ kept-full l ]
@@ -57,6 +57,7 @@ gather-from us t (x ∷ xs) = go (within 0 9999999999 (numberOf x)) (λ w. gathe
   where
     bad : Bad
     bad = record { field = t + 1; number = Format }
+
     go : (o : Option ℕ) → ((w : ℕ) → gather (keptAll (us ++ w ∷ [])) (t + 1) xs ≡ andThen (workersOf (t + 1) xs) (λ ws. Ok (keptAll ((us ++ w ∷ []) ++ ws)))) → andThen (keptOr bad o) (λ w. gather (kept (keptAll us) w) (t + 1) xs) ≡ andThen (andThen (keptOr bad o) (λ w. andThen (workersOf (t + 1) xs) (λ ws. Ok (w ∷ ws)))) (λ ws. Ok (keptAll (us ++ ws)))
     go None rest = refl
     go (Some w) rest = ap (λ vs. gather vs (t + 1) xs) (kept-more us w) ∙ rest w ∙ after-first us w (workersOf (t + 1) xs)

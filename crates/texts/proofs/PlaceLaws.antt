@@ -30,8 +30,8 @@ module _ (xs : List ℕ) (a n : ℕ) (here : n ≡ length (before 10 (drop a xs)
 
   pub rest-after : drop (a + n + 1) xs ≡ after 10 (drop a xs)
   rest-after =
-    let e : a + suc (length (before 10 (drop a xs))) ≡ a + n + 1 = omega arith in
-    sym (after-is 10 (drop a xs) ∙ drop-drop (suc (length (before 10 (drop a xs)))) a xs ∙ ap (λ k. drop k xs) e)
+      let e : a + suc (length (before 10 (drop a xs))) ≡ a + n + 1 = omega arith in
+      sym (after-is 10 (drop a xs) ∙ drop-drop (suc (length (before 10 (drop a xs)))) a xs ∙ ap (λ k. drop k xs) e)
 
 -- nothing is left of a text exactly where all of it was read
 pub rest-none : (xs : List ℕ) (a : ℕ) → a ≤ length xs → eqb a (length xs) ≡ isNone (drop a xs)

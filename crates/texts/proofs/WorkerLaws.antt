@@ -59,10 +59,11 @@ module _ (n : ℕ) (ws : List ℕ) (few : n ≤ 255) where
 
   judged-long : 64 < length ws → frameOf n (keptAll ws) ≡ frameOf n ws
   judged-long l =
-    let full : length (keptAll ws) ≡ 65 = length-take-le 65 (map byteOf ws) (omega (arith, length-map ws byteOf)) in
-    rw (full, ne-eqb (length ws) 0 (omega arith), lt-ltb 64 (length ws) l) refl
+      let full : length (keptAll ws) ≡ 65 = length-take-le 65 (map byteOf ws) (omega (arith, length-map ws byteOf)) in
+      rw (full, ne-eqb (length ws) 0 (omega arith), lt-ltb 64 (length ws) l) refl
 
   pub frame-kept : frameOf n (keptAll ws) ≡ frameOf n ws
   frame-kept = elim (cases-lt 64 (length ws)) [
-    inl l ↦ judged-long l
-    | inr l ↦ ap (frameOf n) (kept-whole l) ∙ elim (cases-bool (allBelow n ws)) [ inl t ↦ judged-below t | inr f ↦ judged-foreign l f ] ]
+    | inl l ↦ judged-long l
+    | inr l ↦ ap (frameOf n) (kept-whole l) ∙ elim (cases-bool (allBelow n ws)) [ inl t ↦ judged-below t | inr f ↦ judged-foreign l f ]
+  ]

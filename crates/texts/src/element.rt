@@ -28,7 +28,11 @@ pub impl Element for Bundle as BundleElement {
         let wavelength = fields.number(0, 255)?;
         let rays = fields.number(0, 65_535)?;
         fields.end()?;
-        Ok(Bundle { field: field as u8, wavelength: wavelength as u8, rays: rays as u16 })
+        Ok(Bundle {
+            field: field as u8,
+            wavelength: wavelength as u8,
+            rays: rays as u16,
+        })
     }
 }
 
@@ -39,7 +43,9 @@ fn lost(fields: Fields<'_>) -> Result<Landing, Bad>
     let mut fields = fields;
     let surface = fields.number(0, 255)?;
     fields.end()?;
-    Ok(Landing::Lost { surface: surface as u8 })
+    Ok(Landing::Lost {
+        surface: surface as u8,
+    })
 }
 
 // The landing of a ray that hit the image plane, from its x on.

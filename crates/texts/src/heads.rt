@@ -11,7 +11,11 @@ use vocabulary::kind::ElementKind;
 
 // Reads a card in place of the one held, and then the sheet's first line. The first fault counts, whichever text it is
 // of. A card without a fault is held then, whatever the sheet's first line is.
-pub fn read_heads<'t>(card: &mut Card, text: &'t [u8], sheet: &mut Reader<'t>) -> Result<ElementKind, Fault<'t>>
+pub fn read_heads<'t>(
+    card: &mut Card,
+    text: &'t [u8],
+    sheet: &mut Reader<'t>,
+) -> Result<ElementKind, Fault<'t>>
     ensures value { λ r. ⌜ placed r ≡ headsOf (cardOf (opening TextName.Card (text .entry))) (place (now (sheet .entry))) ⌝ }
     ensures held { λ _. ⌜ Held (cardOf (opening TextName.Card (text .entry))) (now (card .entry)) (now (card .exit)) ⌝ }
     ensures after { λ _. ⌜ place (now (sheet .exit)) ≡ sheetAfter (cardOf (opening TextName.Card (text .entry))) (place (now (sheet .entry))) ⌝ }

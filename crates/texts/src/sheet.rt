@@ -46,7 +46,10 @@ fn post_line<T: Element>(fields: Fields<'_>) -> Result<SheetLine<T>, Bad>
     let mut fields = fields;
     let worker = fields.number(0, 255)?;
     let element = T::read(fields)?;
-    Ok(SheetLine::Post { worker: worker as u8, element })
+    Ok(SheetLine::Post {
+        worker: worker as u8,
+        element,
+    })
 }
 
 // What a line of a sheet says, or its leftmost bad field.
@@ -61,15 +64,21 @@ fn sheet_line<T: Element>(fields: Fields<'_>) -> Result<SheetLine<T>, Bad>
     }
     if same(word, b"fetch") {
         let worker = last_number(fields, 0, 255)?;
-        return Ok(SheetLine::Fetch { worker: worker as u8 });
+        return Ok(SheetLine::Fetch {
+            worker: worker as u8,
+        });
     }
     if same(word, b"step") {
         let worker = last_number(fields, 0, 255)?;
-        return Ok(SheetLine::Step { worker: worker as u8 });
+        return Ok(SheetLine::Step {
+            worker: worker as u8,
+        });
     }
     if same(word, b"turn") {
         let count = last_number(fields, 1, 1_000_000)?;
-        return Ok(SheetLine::Turn { count: count as u32 });
+        return Ok(SheetLine::Turn {
+            count: count as u32,
+        });
     }
     Err(bad)
 }

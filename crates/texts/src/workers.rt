@@ -15,4 +15,5 @@ pub struct Workers {
 }
 
 mod named;
+
 pub(crate) use crate::workers::named::first_foreign;

@@ -24,7 +24,8 @@ fn byte_for(b: u8) -> u8
 }
 
 // Sixteen lines of a sheet, 128 bytes.
-const LINES: &[u8] = b"fetch\t0\nfetch\t0\nfetch\t0\nfetch\t0\nfetch\t0\nfetch\t0\nfetch\t0\nfetch\t0\n\
+const LINES: &[u8] =
+    b"fetch\t0\nfetch\t0\nfetch\t0\nfetch\t0\nfetch\t0\nfetch\t0\nfetch\t0\nfetch\t0\n\
 fetch\t0\nfetch\t0\nfetch\t0\nfetch\t0\nfetch\t0\nfetch\t0\nfetch\t0\nfetch\t0\n";
 
 // Adds the bytes that a byte of the table stands for: 4,096 bytes `x` for `#`, sixteen lines `fetch 0` for `*`, none
@@ -43,7 +44,7 @@ fn add_for(out: &mut Vec<u8>, b: u8) -> Result<(), AllocError>
 }
 
 // The bytes that a part of a row stands for.
-pub fn expanded(heap: Global, part: &[u8]) -> Result<Vec<u8>, AllocError>
+pub(crate) fn expanded(heap: Global, part: &[u8]) -> Result<Vec<u8>, AllocError>
     ensures { λ r. ⌜ made r (λ v. vec-items v ≡ joined bytesFor (now (part .entry))) ⌝ }
 {
     let mut out = Vec::new(heap);

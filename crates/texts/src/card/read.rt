@@ -53,7 +53,10 @@ fn bad_worker(n: u8, row: &[u8], number: Refusal) -> Bad
                 Bad { field: 67, number }
             }
         }
-        Refusal::ForeignWorker => Bad { field: 3 + first_foreign(n, row), number },
+        Refusal::ForeignWorker => Bad {
+            field: 3 + first_foreign(n, row),
+            number,
+        },
         _ => Bad { field: 2, number },
     }
 }

@@ -14,14 +14,21 @@ impl<'t> Fields<'t> {
     pub(crate) fn of(line: &'t [u8]) -> Fields<'t>
         ensures { λ r. ⌜ row r ≡ rowOf (now (line .entry)) ⌝ }
     {
-        Fields { rest: line, more: true, taken: 0 }
+        Fields {
+            rest: line,
+            more: true,
+            taken: 0,
+        }
     }
 
     // The fault of the field that comes next, also where there is none.
     pub(crate) fn next_bad(&self) -> Bad
         ensures { λ r. ⌜ r ≡ badRow (row (now (self .entry))) ⌝ }
     {
-        Bad { field: self.taken + 1, number: Refusal::Format }
+        Bad {
+            field: self.taken + 1,
+            number: Refusal::Format,
+        }
     }
 
     // The next field. It is a fault if there is none.

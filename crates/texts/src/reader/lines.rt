@@ -16,7 +16,10 @@ use vocabulary::refusal::Refusal;
 const LONGEST: usize = 65_536;
 
 // A line that breaks the format as a whole is bad at its first field.
-const BAD_LINE: Bad = Bad { field: 1, number: Refusal::Format };
+const BAD_LINE: Bad = Bad {
+    field: 1,
+    number: Refusal::Format,
+};
 
 impl<'t> Line<'t> {
     // Its fields.
@@ -30,7 +33,13 @@ impl<'t> Line<'t> {
     pub(crate) fn fault(&self, bad: Bad) -> Fault<'t>
         ensures { λ r. ⌜ spotOf r ≡ badLine (lineSpot (now (self .entry))) bad ⌝ }
     {
-        Fault { text: self.text, line: self.number, field: bad.field, number: bad.number, part: self.bytes }
+        Fault {
+            text: self.text,
+            line: self.number,
+            field: bad.field,
+            number: bad.number,
+            part: self.bytes,
+        }
     }
 
     // What a rule for its fields gave, or the fault of the field that it named.
@@ -49,7 +58,12 @@ impl<'t> Reader<'t> {
     pub(crate) fn of(name: TextName, text: &'t [u8]) -> Reader<'t>
         ensures { λ r. ⌜ place r ≡ opening name (text .entry) ⌝ }
     {
-        Reader { name, text, at: 0, lines: 0 }
+        Reader {
+            name,
+            text,
+            at: 0,
+            lines: 0,
+        }
     }
 
     // That the text is not too long. A text that is too long is bad at line 0, field 0.
@@ -57,7 +71,13 @@ impl<'t> Reader<'t> {
         ensures { λ r. ⌜ placed r ≡ sizeOf (place (now (self .entry))) ⌝ }
     {
         if self.text.len() > LONGEST {
-            return Err(Fault { text: self.name, line: 0, field: 0, number: Refusal::Format, part: &self.text[0..0] });
+            return Err(Fault {
+                text: self.name,
+                line: 0,
+                field: 0,
+                number: Refusal::Format,
+                part: &self.text[0..0],
+            });
         }
         Ok(())
     }
@@ -76,7 +96,11 @@ impl<'t> Reader<'t> {
         let text = self.text;
         let (_, rest) = text.split_at(self.at);
         let n = length_before(rest, 10);
-        Line { text: self.name, number: self.lines + 1, bytes: &text[self.at..self.at + n] }
+        Line {
+            text: self.name,
+            number: self.lines + 1,
+            bytes: &text[self.at..self.at + n],
+        }
     }
 
     // The next line. It is a fault if there is none, or if it has no byte 10 at its end; the reader then stays.

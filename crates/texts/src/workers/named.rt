@@ -18,7 +18,10 @@ impl Workers {
     fn none() -> Workers
         ensures { λ r. ⌜ rowKept r ≡ [] ⌝ }
     {
-        Workers { count: 0, places: [0; MOST] }
+        Workers {
+            count: 0,
+            places: [0; MOST],
+        }
     }
 
     // Keeps one worker more, if there is room.

@@ -18,6 +18,7 @@ returns c =
     record {
       value = word-is xs (self .more) (self .taken) n (c .if-not-self .left) here (now (c .split-at .result .0)) (c .split-at .ensures .front);
       after = elim (c .if-n-rest .came) [
-        then-n-rest w ↦ ap (λ s. record { left = cond (s .1 .1 .0) (cut 9 (now (s .1 .0))) []; taken = self .taken + 1 }) (w .self-is) ∙ next-more xs (self .more) (self .taken) n (c .if-not-self .left) here _ (w .if-n-rest .taken) (after-tab xs (now (c .split-at .result .1)) n (c .split-at .ensures .back))
-        | else-n-rest w ↦ ap (λ s. record { left = cond (s .1 .1 .0) (cut 9 (now (s .1 .0))) []; taken = self .taken + 1 }) (w .self-is) ∙ next-last xs (self .more) (self .taken) n (c .if-not-self .left) here (w .if-n-rest .left) ];
+        | then-n-rest w ↦ ap (λ s. record { left = cond (s .1 .1 .0) (cut 9 (now (s .1 .0))) []; taken = self .taken + 1 }) (w .self-is) ∙ next-more xs (self .more) (self .taken) n (c .if-not-self .left) here _ (w .if-n-rest .taken) (after-tab xs (now (c .split-at .result .1)) n (c .split-at .ensures .back))
+        | else-n-rest w ↦ ap (λ s. record { left = cond (s .1 .1 .0) (cut 9 (now (s .1 .0))) []; taken = self .taken + 1 }) (w .self-is) ∙ next-last xs (self .more) (self .taken) n (c .if-not-self .left) here (w .if-n-rest .left)
+      ];
     }
