@@ -1,0 +1,10 @@
+pub mod LineAnswered
+pub mod LineEffects
+pub mod LineGiven
+pub mod LineKeeps
+pub mod LineMarked
+pub mod LineMoved
+pub mod LinePlaced
+pub mod LineState
+pub mod MapLaws
+pub mod PlainLaws

@@ -1,0 +1,9 @@
+pub mod AbstractLine
+pub mod Books
+pub mod Events
+pub mod Limits
+pub mod Maps
+pub mod Order
+pub mod PlainList
+pub mod Promise
+pub mod WellTold
