@@ -70,10 +70,10 @@ module _ {T : Type 0} (fieldsOf : T → List (List ℕ)) (reads : Row → Result
       reads-line (codes "post") (decimal w ∷ fieldsOf x)
       (refl, (decimal-lacks 9 w (omega arith) (omega arith), lack 9 (omega arith) x ok))
       (refl, (decimal-lacks 10 w (omega arith) (omega arith), lack 10 (omega arith) x ok))
-      rest (sheetLine reads) (SheetLine.Post w x) (rw (within-back 0 255 w (omega arith) small (omega arith), back x ok 2) refl)
-  said (SheetLine.Fetch w) small = counted (codes "fetch") w (SheetLine.Fetch w) refl refl (omega arith) (rw (within-back 0 255 w (omega arith) small (omega arith)) refl)
-  said (SheetLine.Step w) small = counted (codes "step") w (SheetLine.Step w) refl refl (omega arith) (rw (within-back 0 255 w (omega arith) small (omega arith)) refl)
-  said (SheetLine.Turn c) (some, small) = counted (codes "turn") c (SheetLine.Turn c) refl refl (omega arith) (rw (within-back 1 1000000 c some small (omega arith)) refl)
+      rest (sheetLine reads) (SheetLine.Post w x) (rw (within-back 0 255 w (omega arith) (omega arith) (omega arith), back x ok 2) refl)
+  said (SheetLine.Fetch w) small = counted (codes "fetch") w (SheetLine.Fetch w) refl refl (omega arith) (rw (within-back 0 255 w (omega arith) (omega arith) (omega arith)) refl)
+  said (SheetLine.Step w) small = counted (codes "step") w (SheetLine.Step w) refl refl (omega arith) (rw (within-back 0 255 w (omega arith) (omega arith) (omega arith)) refl)
+  said (SheetLine.Turn c) (some, small) = counted (codes "turn") c (SheetLine.Turn c) refl refl (omega arith) (rw (within-back 1 1000000 c (omega arith) (omega arith) (omega arith)) refl)
 
   pub line-back : (l : SheetLine T) → LineInRange InRange l → (rest : List ℕ) → ReadsAs (sheetLine reads) (sheetBytes fieldsOf l) l rest × NextLine reads (sheetBytes fieldsOf l) l rest
   line-back l ok rest =
