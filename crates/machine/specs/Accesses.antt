@@ -6,12 +6,14 @@ use Rattle.std.specs.declared.option.Option.the-variants.{Some, None}
 use Rattle.machine.specs.declared.access.Access.{Access}
 use Rattle.machine.specs.declared.entry.Descriptor.{Descriptor}
 use Rattle.machine.specs.declared.entry.OrderKind.{OrderKind}
+use Rattle.machine.specs.declared.stage.EmptyStage.{EmptyStage}
 use Rattle.machine.specs.declared.stage.FinishDeqStage.{FinishDeqStage}
 use Rattle.machine.specs.declared.stage.FinishEnqStage.{FinishEnqStage}
 use Rattle.machine.specs.declared.stage.HelpDeqStage.{HelpDeqStage}
 use Rattle.machine.specs.declared.stage.HelpEnqStage.{HelpEnqStage}
 use Rattle.machine.specs.declared.stage.OrderStage.{OrderStage}
 use Rattle.machine.specs.declared.stage.Stage.{Stage}
+use Rattle.machine.specs.declared.stage.TakeStage.{TakeStage}
 use Rattle.machine.specs.declared.worker.Worker.{Worker}
 
 -- the node or worker in a register that is known to have one
@@ -72,19 +74,23 @@ helpDeqAccess v HelpDeqStage.T1 = Access.ReadHead
 helpDeqAccess v HelpDeqStage.T2 = Access.ReadTail
 helpDeqAccess v HelpDeqStage.T3 = Access.ReadSuccessor (v .head)
 helpDeqAccess v HelpDeqStage.T4 = Access.ReadHead
-helpDeqAccess v HelpDeqStage.T5 = Access.ReadEntry (v .index)
-helpDeqAccess v HelpDeqStage.T6 = Access.ReadTail
-helpDeqAccess v HelpDeqStage.C1AfterT6 = Access.ReadEntry (v .index)
-helpDeqAccess v HelpDeqStage.C2AfterT6 = Access.ReadEntry (v .index)
-helpDeqAccess v HelpDeqStage.T7 = Access.ReadEntry (v .index)
-helpDeqAccess v HelpDeqStage.T8 = Access.ExchangeEntry (v .index) (v .saved) (described (v .«kept_phase») false OrderKind.Fetch None)
-helpDeqAccess v HelpDeqStage.T9 = Access.ReadEntry (v .index)
-helpDeqAccess v HelpDeqStage.C1AfterT9 = Access.ReadEntry (v .index)
-helpDeqAccess v HelpDeqStage.C2AfterT9 = Access.ReadEntry (v .index)
-helpDeqAccess v HelpDeqStage.T10 = Access.ReadHead
-helpDeqAccess v HelpDeqStage.T11 = Access.ReadEntry (v .index)
-helpDeqAccess v HelpDeqStage.T12 = Access.ExchangeEntry (v .index) (v .saved) (described (v .«kept_phase») true OrderKind.Fetch (Some (v .head)))
-helpDeqAccess v HelpDeqStage.T13 = Access.ExchangeTaker (v .head) (v .index)
+
+abbrev pub emptyAccess : Worker → EmptyStage → Access
+emptyAccess v EmptyStage.T5 = Access.ReadEntry (v .index)
+emptyAccess v EmptyStage.T6 = Access.ReadTail
+emptyAccess v EmptyStage.C1 = Access.ReadEntry (v .index)
+emptyAccess v EmptyStage.C2 = Access.ReadEntry (v .index)
+emptyAccess v EmptyStage.T7 = Access.ReadEntry (v .index)
+emptyAccess v EmptyStage.T8 = Access.ExchangeEntry (v .index) (v .saved) (described (v .«kept_phase») false OrderKind.Fetch None)
+
+abbrev pub takeAccess : Worker → TakeStage → Access
+takeAccess v TakeStage.T9 = Access.ReadEntry (v .index)
+takeAccess v TakeStage.C1 = Access.ReadEntry (v .index)
+takeAccess v TakeStage.C2 = Access.ReadEntry (v .index)
+takeAccess v TakeStage.T10 = Access.ReadHead
+takeAccess v TakeStage.T11 = Access.ReadEntry (v .index)
+takeAccess v TakeStage.T12 = Access.ExchangeEntry (v .index) (v .saved) (described (v .«kept_phase») true OrderKind.Fetch (Some (v .head)))
+takeAccess v TakeStage.T13 = Access.ExchangeTaker (v .head) (v .index)
 
 abbrev pub accessAt : (ℕ → ℕ) → ℕ → Worker → Stage → Access
 accessAt poster w v Stage.Idle = Access.None
@@ -93,6 +99,8 @@ accessAt poster w v (Stage.FinishEnq a r) = finishEnqAccess (poster (named (v .n
 accessAt poster w v (Stage.FinishDeq a r) = finishDeqAccess (named (v .taker)) v a
 accessAt poster w v (Stage.HelpEnq a) = helpEnqAccess v a
 accessAt poster w v (Stage.HelpDeq a) = helpDeqAccess v a
+accessAt poster w v (Stage.Empty a) = emptyAccess v a
+accessAt poster w v (Stage.Take a) = takeAccess v a
 
 -- the access that the worker w, whose posters are known, makes next
 abbrev pub accessOf : (ℕ → ℕ) → ℕ → Worker → Access

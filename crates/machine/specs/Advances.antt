@@ -111,11 +111,23 @@ abbrev pub helpOf : OrderKind → Worker → Worker
 helpOf OrderKind.Post v = helpEnq v
 helpOf OrderKind.Fetch v = helpDeq v
 
--- the worker's p is the largest phase plus 1; the stored phases are one above the stated ones, and so is p
+-- the next entry's phase was read; after the last, the worker's p is the largest phase plus 1 (stored phases are one above
+-- the stated ones, and so is p)
+abbrev pub scanned : ℕ → Worker → ℕ → Worker
+scanned n v phase = cond (ltb (v .index + 1) n)
+    (withPhase v (max (v .phase) phase) (v .index + 1) (Stage.Order OrderStage.Scan))
+    (withPhase v (max (v .phase) phase + 1) 0 (Stage.Order OrderStage.Announce))
+
+-- the phase of an entry that was seen
+abbrev pub phaseSeen : Seen → ℕ
+phaseSeen Seen.Nothing = 0
+phaseSeen (Seen.Place j) = 0
+phaseSeen (Seen.Link x) = 0
+phaseSeen (Seen.Entry e) = e .descriptor .phase
+phaseSeen (Seen.Held b) = 0
+
 abbrev pub orderAdvance : ℕ → Worker → Seen → OrderStage → Advanced
-orderAdvance n v s OrderStage.Scan = onEntry v s (λ e. worked (cond (ltb (v .index + 1) n)
-    (withPhase v (max (v .phase) (e .descriptor .phase)) (v .index + 1) (Stage.Order OrderStage.Scan))
-    (withPhase v (max (v .phase) (e .descriptor .phase) + 1) 0 (Stage.Order OrderStage.Announce))))
+orderAdvance n v s OrderStage.Scan = onEntry v s (λ e. worked (scanned n v (e .descriptor .phase)))
 orderAdvance n v s OrderStage.Announce = worked (goto v (Stage.Order OrderStage.Look))
 orderAdvance n v s OrderStage.Look = onEntry v s (λ e. worked (cond (pendingOf e && notAbove e v) (helpOf (e .descriptor .kind) v) (nextWorker n v)))
 orderAdvance n v s OrderStage.Recall = onEntry v s (λ e. afterRecall v (e .descriptor .node))

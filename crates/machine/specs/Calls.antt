@@ -33,6 +33,8 @@ idleAt (Stage.FinishEnq a t) = false
 idleAt (Stage.FinishDeq a t) = false
 idleAt (Stage.HelpEnq a) = false
 idleAt (Stage.HelpDeq a) = false
+idleAt (Stage.Empty a) = false
+idleAt (Stage.Take a) = false
 
 -- whether a worker has an unanswered order
 abbrev pub busy : {T : Type 0} → State T → ℕ → Bool

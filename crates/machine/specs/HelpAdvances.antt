@@ -7,12 +7,14 @@ use Rattle.std.specs.declared.option.Option.the-variants.{Some, None}
 use Rattle.vocabulary.specs.declared.kind.Kind.{Kind}
 use Rattle.machine.specs.declared.access.Outcome.{Outcome}
 use Rattle.machine.specs.declared.access.Seen.{Seen}
+use Rattle.machine.specs.declared.stage.EmptyStage.{EmptyStage}
 use Rattle.machine.specs.declared.stage.FinishDeqStage.{FinishDeqStage}
 use Rattle.machine.specs.declared.stage.FinishEnqStage.{FinishEnqStage}
 use Rattle.machine.specs.declared.stage.HelpDeqStage.{HelpDeqStage}
 use Rattle.machine.specs.declared.stage.HelpEnqStage.{HelpEnqStage}
 use Rattle.machine.specs.declared.stage.Return.{Return}
 use Rattle.machine.specs.declared.stage.Stage.{Stage}
+use Rattle.machine.specs.declared.stage.TakeStage.{TakeStage}
 use Rattle.machine.specs.declared.worker.Worker.{Worker}
 use Rattle.machine.specs.Advances.{Advanced, worked, onPlace, onLink, onEntry, onHeld, isNode, pendingOf, notAbove, nextWorker, helpEnq, helpDeq, orderAdvance, finishEnqAdvance, finishDeqAdvance}
 use Rattle.machine.specs.Registers.{goto, withTail, withHead, withNext, withNode, withKept, withSaved, withT3, withClaim}
@@ -47,15 +49,17 @@ helpEnqAdvance n t v s HelpEnqStage.C2AfterP3 = onEntry v s (λ e. worked (cond 
 helpEnqAdvance n t v s HelpEnqStage.P4 = onEntry v s (λ e. worked (withNode v (e .descriptor .node) (Stage.HelpEnq HelpEnqStage.P5)))
 helpEnqAdvance n t v s HelpEnqStage.P5 = onHeld v s (λ b. cond b (pointed v (finishEnq v Return.NextWorker) t Kind.Post) (worked (helpEnq v)))
 
+abbrev pub inEmpty : Worker → EmptyStage → Worker
+inEmpty v a = goto v (Stage.Empty a)
+
+abbrev pub inTake : Worker → TakeStage → Worker
+inTake v a = goto v (Stage.Take a)
+
 -- head and tail were the same node, or not; and its successor
 abbrev pub afterT4 : Worker → Bool → Option ℕ → Worker
-afterT4 v false x = inDeq v HelpDeqStage.T9
-afterT4 v true None = inDeq v HelpDeqStage.T5
+afterT4 v false x = inTake v TakeStage.T9
+afterT4 v true None = inEmpty v EmptyStage.T5
 afterT4 v true (Some x) = finishEnq v Return.HelpDeq
-
--- to help_finish_deq
-abbrev pub finishDeq : Worker → Worker
-finishDeq v = goto v (Stage.FinishDeq FinishDeqStage.D1 Return.HelpDeq)
 
 abbrev pub helpDeqAdvance : ℕ → ℕ → Worker → Seen → HelpDeqStage → Advanced
 helpDeqAdvance n t v s HelpDeqStage.C1 = onEntry v s (λ e. worked (cond (pendingOf e) (inDeq v HelpDeqStage.C2) (nextWorker n v)))
@@ -64,20 +68,29 @@ helpDeqAdvance n t v s HelpDeqStage.T1 = onPlace v s (λ h. worked (withHead v h
 helpDeqAdvance n t v s HelpDeqStage.T2 = onPlace v s (λ l. worked (withTail v l (Stage.HelpDeq HelpDeqStage.T3)))
 helpDeqAdvance n t v s HelpDeqStage.T3 = onLink v s (λ x. worked (withT3 v x t (Stage.HelpDeq HelpDeqStage.T4)))
 helpDeqAdvance n t v s HelpDeqStage.T4 = onPlace v s (λ h. worked (cond (eqb h (v .head)) (afterT4 v (eqb (v .head) (v .tail)) (v .next)) (helpDeq v)))
-helpDeqAdvance n t v s HelpDeqStage.T5 = onEntry v s (λ e. worked (withSaved v (e .count) (Stage.HelpDeq HelpDeqStage.T6)))
-helpDeqAdvance n t v s HelpDeqStage.T6 = onPlace v s (λ l. worked (cond (eqb l (v .tail)) (inDeq v HelpDeqStage.C1AfterT6) (helpDeq v)))
-helpDeqAdvance n t v s HelpDeqStage.C1AfterT6 = onEntry v s (λ e. worked (cond (pendingOf e) (inDeq v HelpDeqStage.C2AfterT6) (helpDeq v)))
-helpDeqAdvance n t v s HelpDeqStage.C2AfterT6 = onEntry v s (λ e. worked (cond (notAbove e v) (inDeq v HelpDeqStage.T7) (helpDeq v)))
-helpDeqAdvance n t v s HelpDeqStage.T7 = onEntry v s (λ e. worked (withKept v (e .descriptor .phase) (Stage.HelpDeq HelpDeqStage.T8)))
--- an empty fetch's point is the number of the latest T3, not of this step
-helpDeqAdvance n t v s HelpDeqStage.T8 = onHeld v s (λ b. cond b (pointed v (helpDeq v) (v .t3) Kind.None) (worked (helpDeq v)))
-helpDeqAdvance n t v s HelpDeqStage.T9 = onEntry v s (λ e. worked (withClaim v (e .count) (e .descriptor .node) (Stage.HelpDeq HelpDeqStage.C1AfterT9)))
-helpDeqAdvance n t v s HelpDeqStage.C1AfterT9 = onEntry v s (λ e. worked (cond (pendingOf e) (inDeq v HelpDeqStage.C2AfterT9) (nextWorker n v)))
-helpDeqAdvance n t v s HelpDeqStage.C2AfterT9 = onEntry v s (λ e. worked (cond (notAbove e v) (inDeq v HelpDeqStage.T10) (nextWorker n v)))
-helpDeqAdvance n t v s HelpDeqStage.T10 = onPlace v s (λ h. worked (cond (eqb h (v .head) && not (isNode (v .node) (v .head))) (inDeq v HelpDeqStage.T11) (inDeq v HelpDeqStage.T13)))
-helpDeqAdvance n t v s HelpDeqStage.T11 = onEntry v s (λ e. worked (withKept v (e .descriptor .phase) (Stage.HelpDeq HelpDeqStage.T12)))
-helpDeqAdvance n t v s HelpDeqStage.T12 = onHeld v s (λ b. worked (cond b (inDeq v HelpDeqStage.T13) (helpDeq v)))
-helpDeqAdvance n t v s HelpDeqStage.T13 = onHeld v s (λ b. cond b (pointed v (finishDeq v) t Kind.Fetch) (worked (finishDeq v)))
+
+-- the queue was seen empty: the entry says so, and the point is the number of the latest T3, not of this step
+abbrev pub emptyAdvance : Worker → Seen → EmptyStage → Advanced
+emptyAdvance v s EmptyStage.T5 = onEntry v s (λ e. worked (withSaved v (e .count) (Stage.Empty EmptyStage.T6)))
+emptyAdvance v s EmptyStage.T6 = onPlace v s (λ l. worked (cond (eqb l (v .tail)) (inEmpty v EmptyStage.C1) (helpDeq v)))
+emptyAdvance v s EmptyStage.C1 = onEntry v s (λ e. worked (cond (pendingOf e) (inEmpty v EmptyStage.C2) (helpDeq v)))
+emptyAdvance v s EmptyStage.C2 = onEntry v s (λ e. worked (cond (notAbove e v) (inEmpty v EmptyStage.T7) (helpDeq v)))
+emptyAdvance v s EmptyStage.T7 = onEntry v s (λ e. worked (withKept v (e .descriptor .phase) (Stage.Empty EmptyStage.T8)))
+emptyAdvance v s EmptyStage.T8 = onHeld v s (λ b. cond b (pointed v (helpDeq v) (v .t3) Kind.None) (worked (helpDeq v)))
+
+-- to help_finish_deq
+abbrev pub finishDeq : Worker → Worker
+finishDeq v = goto v (Stage.FinishDeq FinishDeqStage.D1 Return.HelpDeq)
+
+-- there is an element to take: the entry names head's node, and head's node gets its taker
+abbrev pub takeAdvance : ℕ → ℕ → Worker → Seen → TakeStage → Advanced
+takeAdvance n t v s TakeStage.T9 = onEntry v s (λ e. worked (withClaim v (e .count) (e .descriptor .node) (Stage.Take TakeStage.C1)))
+takeAdvance n t v s TakeStage.C1 = onEntry v s (λ e. worked (cond (pendingOf e) (inTake v TakeStage.C2) (nextWorker n v)))
+takeAdvance n t v s TakeStage.C2 = onEntry v s (λ e. worked (cond (notAbove e v) (inTake v TakeStage.T10) (nextWorker n v)))
+takeAdvance n t v s TakeStage.T10 = onPlace v s (λ h. worked (cond (eqb h (v .head) && not (isNode (v .node) (v .head))) (inTake v TakeStage.T11) (inTake v TakeStage.T13)))
+takeAdvance n t v s TakeStage.T11 = onEntry v s (λ e. worked (withKept v (e .descriptor .phase) (Stage.Take TakeStage.T12)))
+takeAdvance n t v s TakeStage.T12 = onHeld v s (λ b. worked (cond b (inTake v TakeStage.T13) (helpDeq v)))
+takeAdvance n t v s TakeStage.T13 = onHeld v s (λ b. cond b (pointed v (finishDeq v) t Kind.Fetch) (worked (finishDeq v)))
 
 abbrev pub advanceAt : ℕ → ℕ → Worker → Seen → Stage → Advanced
 advanceAt n t v s Stage.Idle = record { worker = v; outcome = Outcome.Idle }
@@ -86,6 +99,8 @@ advanceAt n t v s (Stage.FinishEnq a r) = finishEnqAdvance n v s r a
 advanceAt n t v s (Stage.FinishDeq a r) = finishDeqAdvance n v s r a
 advanceAt n t v s (Stage.HelpEnq a) = helpEnqAdvance n t v s a
 advanceAt n t v s (Stage.HelpDeq a) = helpDeqAdvance n t v s a
+advanceAt n t v s (Stage.Empty a) = emptyAdvance v s a
+advanceAt n t v s (Stage.Take a) = takeAdvance n t v s a
 
 -- the worker v of a crew of n after its access saw s, in the step numbered t
 abbrev pub advanceOf : ℕ → ℕ → Worker → Seen → Advanced

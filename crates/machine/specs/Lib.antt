@@ -3,6 +3,7 @@ pub mod Advances
 pub mod Calls
 pub mod HelpAdvances
 pub mod Memory
+pub mod Queues
 pub mod Registers
 pub mod States
 pub mod WorkedRuns

@@ -3,6 +3,7 @@
 pub mod access;
 pub mod entry;
 pub mod node;
+pub mod queue;
 pub mod stage;
 pub mod worked_runs;
 pub mod worker;

@@ -75,15 +75,25 @@ pub enum HelpDeqStage {
     T2,
     T3,
     T4,
+}
+
+// In help_deq, where the queue was seen empty.
+#[derive(Clone, Copy)]
+pub enum EmptyStage {
     T5,
     T6,
-    C1AfterT6,
-    C2AfterT6,
+    C1,
+    C2,
     T7,
     T8,
+}
+
+// In help_deq, where there is an element to take.
+#[derive(Clone, Copy)]
+pub enum TakeStage {
     T9,
-    C1AfterT9,
-    C2AfterT9,
+    C1,
+    C2,
     T10,
     T11,
     T12,
@@ -99,4 +109,6 @@ pub enum Stage {
     FinishDeq(FinishDeqStage, Return),
     HelpEnq(HelpEnqStage),
     HelpDeq(HelpDeqStage),
+    Empty(EmptyStage),
+    Take(TakeStage),
 }

@@ -29,3 +29,8 @@ pub struct Worker {
     // the number of its latest T3
     pub t3: u32,
 }
+
+mod accesses;
+mod advances;
+mod helps;
+mod registers;
