@@ -64,7 +64,7 @@ postThenFetch = Call.Post 0 bundle ∷ times 22 Call.Turn (Call.Fetch 0 ∷ time
 pub record Worked-runs : Type 0 where
   -- one post and one fetch alone: points 12 and 38, answers at 22 and 53
   pub alone : repliesOf 1 255 postThenFetch ≡ Reply.Accepted ∷ times 11 Reply.Worked (Reply.Point 12 0 Kind.Post ∷ times 9 Reply.Worked (Reply.Answered 0 Kind.Post 0 12 22 None
-    ∷ Reply.Accepted ∷ times 15 Reply.Worked (Reply.Point 38 0 Kind.Fetch ∷ times 14 Reply.Worked (Reply.Answered 0 Kind.Fetch 22 38 53 (Some bundle) ∷ []))))
+      ∷ Reply.Accepted ∷ times 15 Reply.Worked (Reply.Point 38 0 Kind.Fetch ∷ times 14 Reply.Worked (Reply.Answered 0 Kind.Fetch 22 38 53 (Some bundle) ∷ []))))
   -- closed after step 11 of that run nothing is left, after step 12 the bundle is, after step 38 nothing again
   pub left-before : leftAfter 1 255 (Call.Post 0 bundle ∷ times 11 Call.Turn []) ≡ []
   pub left-posted : leftAfter 1 255 (Call.Post 0 bundle ∷ times 12 Call.Turn []) ≡ bundle ∷ []
@@ -76,7 +76,7 @@ pub record Worked-runs : Type 0 where
   -- a post that was announced and then left alone is carried out by the fetch beside it, which gets its element; four
   -- more steps of the poster answer it
   pub helped : told (repliesOf 2 255 (Call.Post 0 bundle ∷ times 3 (Call.Step 0) (Call.Fetch 1 ∷ times 50 (Call.Step 1) (times 4 (Call.Step 0) []))))
-    ≡ Reply.Point 16 0 Kind.Post ∷ Reply.Point 38 1 Kind.Fetch ∷ Reply.Answered 1 Kind.Fetch 3 38 53 (Some bundle) ∷ Reply.Answered 0 Kind.Post 0 16 57 None ∷ []
+      ≡ Reply.Point 16 0 Kind.Post ∷ Reply.Point 38 1 Kind.Fetch ∷ Reply.Answered 1 Kind.Fetch 3 38 53 (Some bundle) ∷ Reply.Answered 0 Kind.Post 0 16 57 None ∷ []
   -- the frame 0 1 2 1 of a crew of three is lawful and has window 4
   pub frame : (judged 3 (0 ∷ 1 ∷ 2 ∷ 1 ∷ []) ≡ Ok tt) × (length {A = ℕ} (0 ∷ 1 ∷ 2 ∷ 1 ∷ []) ≡ 4)
   -- crew and allowance

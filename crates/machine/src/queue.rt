@@ -9,3 +9,5 @@ pub struct Queue {
     pub head: u8,
     pub tail: u8,
 }
+
+mod made;

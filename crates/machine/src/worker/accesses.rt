@@ -34,7 +34,12 @@ impl Worker {
         match at {
             OrderStage::Scan | OrderStage::Look => Access::ReadEntry(self.index),
             OrderStage::Announce => {
-                let descriptor = Descriptor { phase: self.phase, pending: true, kind: self.kind, node: self.own };
+                let descriptor = Descriptor {
+                    phase: self.phase,
+                    pending: true,
+                    kind: self.kind,
+                    node: self.own,
+                };
                 Access::WriteEntry(w, descriptor)
             }
             OrderStage::Recall => Access::ReadEntry(w),
@@ -52,7 +57,12 @@ impl Worker {
             FinishEnqStage::E3 | FinishEnqStage::E5 | FinishEnqStage::E6 => Access::ReadEntry(k),
             FinishEnqStage::E7 => {
                 let phase = self.kept_phase;
-                let descriptor = Descriptor { phase, pending: false, kind: OrderKind::Post, node: self.next };
+                let descriptor = Descriptor {
+                    phase,
+                    pending: false,
+                    kind: OrderKind::Post,
+                    node: self.next,
+                };
                 Access::ExchangeEntry(k, self.saved, descriptor)
             }
             FinishEnqStage::E8 => Access::ExchangeTail(self.tail, named(self.next)),
@@ -70,7 +80,12 @@ impl Worker {
             FinishDeqStage::D4 | FinishDeqStage::D6 | FinishDeqStage::D7 => Access::ReadEntry(k),
             FinishDeqStage::D8 => {
                 let phase = self.kept_phase;
-                let descriptor = Descriptor { phase, pending: false, kind: OrderKind::Fetch, node: self.node };
+                let descriptor = Descriptor {
+                    phase,
+                    pending: false,
+                    kind: OrderKind::Fetch,
+                    node: self.node,
+                };
                 Access::ExchangeEntry(k, self.saved, descriptor)
             }
             FinishDeqStage::D9 => Access::ExchangeHead(self.head, named(self.next)),
@@ -109,7 +124,12 @@ impl Worker {
             EmptyStage::T6 => Access::ReadTail,
             EmptyStage::T8 => {
                 let phase = self.kept_phase;
-                let descriptor = Descriptor { phase, pending: false, kind: OrderKind::Fetch, node: None };
+                let descriptor = Descriptor {
+                    phase,
+                    pending: false,
+                    kind: OrderKind::Fetch,
+                    node: None,
+                };
                 Access::ExchangeEntry(self.index, self.saved, descriptor)
             }
             _ => Access::ReadEntry(self.index),
@@ -124,7 +144,12 @@ impl Worker {
             TakeStage::T10 => Access::ReadHead,
             TakeStage::T12 => {
                 let phase = self.kept_phase;
-                let descriptor = Descriptor { phase, pending: true, kind: OrderKind::Fetch, node: Some(self.head) };
+                let descriptor = Descriptor {
+                    phase,
+                    pending: true,
+                    kind: OrderKind::Fetch,
+                    node: Some(self.head),
+                };
                 Access::ExchangeEntry(self.index, self.saved, descriptor)
             }
             TakeStage::T13 => Access::ExchangeTaker(self.head, self.index),

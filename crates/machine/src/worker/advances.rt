@@ -1,6 +1,7 @@
 // How a worker advances, by its stage and what its access saw. Where an access of another kind is handed in, it stays.
 ghost use mathlib.Core.Path.{_≡_};
-ghost use Prim.Native.Nat.{_<_, _^_};
+ghost use Prim.Native.Nat.{_+_, _<_, _^_};
+ghost use lib.Dec.{ltb};
 ghost use Rattle.machine.specs.Advances.{sameNode, isNode, nextWorker, finishedEnq, finishedDeq, answered, scanned, phaseSeen, orderAdvance, finishEnqAdvance, finishDeqAdvance};
 use crate::access::Outcome;
 use crate::access::Seen;
@@ -35,11 +36,18 @@ fn same_node(node: Option<u8>, other: Option<u8>) -> bool
 }
 
 impl Worker {
+    // Whether a worker of the crew comes after the one of the loop's index.
+    fn has_next(&self, n: u8) -> bool
+        ensures { λ r. ⌜ r ≡ ltb (now (self .entry) .index + 1) n ⌝ }
+    {
+        (self.index as u16) + 1 < n as u16
+    }
+
     // On to the next worker of the loop, or out of it to the order's end.
     pub(crate) fn next_worker(&mut self, n: u8)
         ensures { λ _. ⌜ now (self .exit) ≡ nextWorker n (now (self .entry)) ⌝ }
     {
-        if (self.index as u16) + 1 < n as u16 {
+        if self.has_next(n) {
             self.index += 1;
             self.stage = Stage::Order(OrderStage::Look);
         } else {
@@ -80,68 +88,76 @@ impl Worker {
     }
 
     // Advances in help_finish_enq.
-    pub(crate) fn finish_enq(&mut self, n: u8, at: FinishEnqStage, then: Return, seen: Seen) -> Outcome
+    pub(crate) fn finish_enq(
+        &mut self,
+        n: u8,
+        at: FinishEnqStage,
+        then: Return,
+        seen: Seen,
+    ) -> Outcome
         ensures { λ r. ⌜ record { worker = now (self .exit); outcome = r } ≡ finishEnqAdvance n (now (self .entry)) seen then at ⌝ }
     {
+        use crate::stage::FinishEnqStage::*;
         match (at, seen) {
-            (FinishEnqStage::E1, Seen::Place(l)) => self.read_tail(l, Stage::FinishEnq(FinishEnqStage::E2, then)),
-            (FinishEnqStage::E2, Seen::Link(x)) => {
-                self.read_next(x, Stage::FinishEnq(FinishEnqStage::E3, then));
+            (E1, Seen::Place(l)) => self.read_tail(l, Stage::FinishEnq(E2, then)),
+            (E2, Seen::Link(x)) => {
+                self.read_next(x, Stage::FinishEnq(E3, then));
                 if x.is_none() {
                     return self.finished_enq(n, then);
                 }
             }
-            (FinishEnqStage::E3, Seen::Entry(e)) => self.save_count(e.count, Stage::FinishEnq(FinishEnqStage::E4, then)),
-            (FinishEnqStage::E4, Seen::Place(l)) => {
+            (E3, Seen::Entry(e)) => self.save_count(e.count, Stage::FinishEnq(E4, then)),
+            (E4, Seen::Place(l)) => {
                 if l != self.tail {
                     return self.finished_enq(n, then);
                 }
-                self.stage = Stage::FinishEnq(FinishEnqStage::E5, then);
+                self.stage = Stage::FinishEnq(E5, then);
             }
-            (FinishEnqStage::E5, Seen::Entry(e)) => {
+            (E5, Seen::Entry(e)) => {
                 if !same_node(e.descriptor.node, self.next) {
                     return self.finished_enq(n, then);
                 }
-                self.stage = Stage::FinishEnq(FinishEnqStage::E6, then);
+                self.stage = Stage::FinishEnq(E6, then);
             }
-            (FinishEnqStage::E6, Seen::Entry(e)) => {
-                self.keep_phase(e.descriptor.phase, Stage::FinishEnq(FinishEnqStage::E7, then));
-            }
-            (FinishEnqStage::E7, Seen::Held(_)) => self.stage = Stage::FinishEnq(FinishEnqStage::E8, then),
-            (FinishEnqStage::E8, Seen::Held(_)) => return self.finished_enq(n, then),
+            (E6, Seen::Entry(e)) => self.keep_phase(e.descriptor.phase, Stage::FinishEnq(E7, then)),
+            (E7, Seen::Held(_)) => self.stage = Stage::FinishEnq(E8, then),
+            (E8, Seen::Held(_)) => return self.finished_enq(n, then),
             _ => {}
         }
         Outcome::Worked
     }
 
     // Advances in help_finish_deq.
-    pub(crate) fn finish_deq(&mut self, n: u8, at: FinishDeqStage, then: Return, seen: Seen) -> Outcome
+    pub(crate) fn finish_deq(
+        &mut self,
+        n: u8,
+        at: FinishDeqStage,
+        then: Return,
+        seen: Seen,
+    ) -> Outcome
         ensures { λ r. ⌜ record { worker = now (self .exit); outcome = r } ≡ finishDeqAdvance n (now (self .entry)) seen then at ⌝ }
     {
+        use crate::stage::FinishDeqStage::*;
         match (at, seen) {
-            (FinishDeqStage::D1, Seen::Place(h)) => self.read_head(h, Stage::FinishDeq(FinishDeqStage::D2, then)),
-            (FinishDeqStage::D2, Seen::Link(x)) => self.read_next(x, Stage::FinishDeq(FinishDeqStage::D3, then)),
-            (FinishDeqStage::D3, Seen::Link(k)) => {
-                self.read_taker(k, Stage::FinishDeq(FinishDeqStage::D4, then));
+            (D1, Seen::Place(h)) => self.read_head(h, Stage::FinishDeq(D2, then)),
+            (D2, Seen::Link(x)) => self.read_next(x, Stage::FinishDeq(D3, then)),
+            (D3, Seen::Link(k)) => {
+                self.read_taker(k, Stage::FinishDeq(D4, then));
                 if k.is_none() {
                     return self.finished_deq(n, then);
                 }
             }
-            (FinishDeqStage::D4, Seen::Entry(e)) => self.save_count(e.count, Stage::FinishDeq(FinishDeqStage::D5, then)),
-            (FinishDeqStage::D5, Seen::Place(h)) => {
+            (D4, Seen::Entry(e)) => self.save_count(e.count, Stage::FinishDeq(D5, then)),
+            (D5, Seen::Place(h)) => {
                 if h != self.head || self.next.is_none() {
                     return self.finished_deq(n, then);
                 }
-                self.stage = Stage::FinishDeq(FinishDeqStage::D6, then);
+                self.stage = Stage::FinishDeq(D6, then);
             }
-            (FinishDeqStage::D6, Seen::Entry(e)) => {
-                self.keep_phase(e.descriptor.phase, Stage::FinishDeq(FinishDeqStage::D7, then));
-            }
-            (FinishDeqStage::D7, Seen::Entry(e)) => {
-                self.read_node(e.descriptor.node, Stage::FinishDeq(FinishDeqStage::D8, then));
-            }
-            (FinishDeqStage::D8, Seen::Held(_)) => self.stage = Stage::FinishDeq(FinishDeqStage::D9, then),
-            (FinishDeqStage::D9, Seen::Held(_)) => return self.finished_deq(n, then),
+            (D6, Seen::Entry(e)) => self.keep_phase(e.descriptor.phase, Stage::FinishDeq(D7, then)),
+            (D7, Seen::Entry(e)) => self.read_node(e.descriptor.node, Stage::FinishDeq(D8, then)),
+            (D8, Seen::Held(_)) => self.stage = Stage::FinishDeq(D9, then),
+            (D9, Seen::Held(_)) => return self.finished_deq(n, then),
             _ => {}
         }
         Outcome::Worked
@@ -161,7 +177,7 @@ impl Worker {
         ensures { λ _. ⌜ now (self .exit) ≡ scanned n (now (self .entry)) phase ⌝ }
     {
         let largest = self.phase.max(phase);
-        if (self.index as u16) + 1 < n as u16 {
+        if self.has_next(n) {
             self.phase = largest;
             self.index += 1;
             self.stage = Stage::Order(OrderStage::Scan);

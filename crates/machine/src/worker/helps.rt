@@ -43,38 +43,47 @@ impl Worker {
     fn on_or_deq(&mut self, on: bool, stage: Stage)
         ensures { λ _. ⌜ now (self .exit) ≡ cond on (goto (now (self .entry)) stage) (helpDeq (now (self .entry))) ⌝ }
     {
-        self.stage = if on { stage } else { Stage::HelpDeq(HelpDeqStage::C1) };
+        self.stage = if on {
+            stage
+        } else {
+            Stage::HelpDeq(HelpDeqStage::C1)
+        };
     }
 
     // Advances in help_enq, in the step of this number.
     fn help_enq(&mut self, n: u8, number: u32, at: HelpEnqStage, seen: Seen) -> Outcome
         ensures { λ r. ⌜ record { worker = now (self .exit); outcome = r } ≡ helpEnqAdvance n number (now (self .entry)) seen at ⌝ }
     {
+        use crate::stage::HelpEnqStage::*;
         match (at, seen) {
-            (HelpEnqStage::C1, Seen::Entry(e)) => {
-                self.on_or_next(e.descriptor.pending, Stage::HelpEnq(HelpEnqStage::C2), n);
-            }
-            (HelpEnqStage::C2, Seen::Entry(e)) => {
-                self.on_or_next(e.descriptor.phase <= self.phase, Stage::HelpEnq(HelpEnqStage::P1), n);
-            }
-            (HelpEnqStage::P1, Seen::Place(l)) => self.read_tail(l, Stage::HelpEnq(HelpEnqStage::P2)),
-            (HelpEnqStage::P2, Seen::Link(x)) => self.read_next(x, Stage::HelpEnq(HelpEnqStage::P3)),
-            (HelpEnqStage::P3, Seen::Place(l)) => {
+            (C1, Seen::Entry(e)) => self.on_or_next(e.descriptor.pending, Stage::HelpEnq(C2), n),
+            (C2, Seen::Entry(e)) => self.on_or_next(
+                e.descriptor.phase <= self.phase,
+                Stage::HelpEnq(P1),
+                n,
+            ),
+            (P1, Seen::Place(l)) => self.read_tail(l, Stage::HelpEnq(P2)),
+            (P2, Seen::Link(x)) => self.read_next(x, Stage::HelpEnq(P3)),
+            (P3, Seen::Place(l)) => {
                 if l == self.tail && self.next.is_some() {
                     self.stage = Stage::FinishEnq(FinishEnqStage::E1, Return::HelpEnq);
                 } else {
-                    self.on_or_enq(l == self.tail, HelpEnqStage::C1AfterP3);
+                    self.on_or_enq(l == self.tail, C1AfterP3);
                 }
             }
-            (HelpEnqStage::C1AfterP3, Seen::Entry(e)) => self.on_or_enq(e.descriptor.pending, HelpEnqStage::C2AfterP3),
-            (HelpEnqStage::C2AfterP3, Seen::Entry(e)) => self.on_or_enq(e.descriptor.phase <= self.phase, HelpEnqStage::P4),
-            (HelpEnqStage::P4, Seen::Entry(e)) => self.read_node(e.descriptor.node, Stage::HelpEnq(HelpEnqStage::P5)),
-            (HelpEnqStage::P5, Seen::Held(held)) => {
+            (C1AfterP3, Seen::Entry(e)) => self.on_or_enq(e.descriptor.pending, C2AfterP3),
+            (C2AfterP3, Seen::Entry(e)) => self.on_or_enq(e.descriptor.phase <= self.phase, P4),
+            (P4, Seen::Entry(e)) => self.read_node(e.descriptor.node, Stage::HelpEnq(P5)),
+            (P5, Seen::Held(held)) => {
                 if held {
                     self.stage = Stage::FinishEnq(FinishEnqStage::E1, Return::NextWorker);
-                    return Outcome::Point { number, worker: self.index, kind: Kind::Post };
+                    return Outcome::Point {
+                        number,
+                        worker: self.index,
+                        kind: Kind::Post,
+                    };
                 }
-                self.stage = Stage::HelpEnq(HelpEnqStage::C1);
+                self.stage = Stage::HelpEnq(C1);
             }
             _ => {}
         }
@@ -85,19 +94,20 @@ impl Worker {
     fn help_deq(&mut self, n: u8, number: u32, at: HelpDeqStage, seen: Seen) -> Outcome
         ensures { λ r. ⌜ record { worker = now (self .exit); outcome = r } ≡ helpDeqAdvance n number (now (self .entry)) seen at ⌝ }
     {
+        use crate::stage::HelpDeqStage::*;
         match (at, seen) {
-            (HelpDeqStage::C1, Seen::Entry(e)) => {
-                self.on_or_next(e.descriptor.pending, Stage::HelpDeq(HelpDeqStage::C2), n);
-            }
-            (HelpDeqStage::C2, Seen::Entry(e)) => {
-                self.on_or_next(e.descriptor.phase <= self.phase, Stage::HelpDeq(HelpDeqStage::T1), n);
-            }
-            (HelpDeqStage::T1, Seen::Place(h)) => self.read_head(h, Stage::HelpDeq(HelpDeqStage::T2)),
-            (HelpDeqStage::T2, Seen::Place(l)) => self.read_tail(l, Stage::HelpDeq(HelpDeqStage::T3)),
-            (HelpDeqStage::T3, Seen::Link(x)) => self.read_t3(x, number, Stage::HelpDeq(HelpDeqStage::T4)),
-            (HelpDeqStage::T4, Seen::Place(h)) => {
+            (C1, Seen::Entry(e)) => self.on_or_next(e.descriptor.pending, Stage::HelpDeq(C2), n),
+            (C2, Seen::Entry(e)) => self.on_or_next(
+                e.descriptor.phase <= self.phase,
+                Stage::HelpDeq(T1),
+                n,
+            ),
+            (T1, Seen::Place(h)) => self.read_head(h, Stage::HelpDeq(T2)),
+            (T2, Seen::Place(l)) => self.read_tail(l, Stage::HelpDeq(T3)),
+            (T3, Seen::Link(x)) => self.read_t3(x, number, Stage::HelpDeq(T4)),
+            (T4, Seen::Place(h)) => {
                 if h != self.head {
-                    self.stage = Stage::HelpDeq(HelpDeqStage::C1);
+                    self.stage = Stage::HelpDeq(C1);
                 } else if self.head != self.tail {
                     self.stage = Stage::Take(TakeStage::T9);
                 } else if self.next.is_none() {
@@ -115,18 +125,24 @@ impl Worker {
     fn find_empty(&mut self, at: EmptyStage, seen: Seen) -> Outcome
         ensures { λ r. ⌜ record { worker = now (self .exit); outcome = r } ≡ emptyAdvance (now (self .entry)) seen at ⌝ }
     {
+        use crate::stage::EmptyStage::*;
         match (at, seen) {
-            (EmptyStage::T5, Seen::Entry(e)) => self.save_count(e.count, Stage::Empty(EmptyStage::T6)),
-            (EmptyStage::T6, Seen::Place(l)) => self.on_or_deq(l == self.tail, Stage::Empty(EmptyStage::C1)),
-            (EmptyStage::C1, Seen::Entry(e)) => self.on_or_deq(e.descriptor.pending, Stage::Empty(EmptyStage::C2)),
-            (EmptyStage::C2, Seen::Entry(e)) => {
-                self.on_or_deq(e.descriptor.phase <= self.phase, Stage::Empty(EmptyStage::T7));
-            }
-            (EmptyStage::T7, Seen::Entry(e)) => self.keep_phase(e.descriptor.phase, Stage::Empty(EmptyStage::T8)),
-            (EmptyStage::T8, Seen::Held(held)) => {
+            (T5, Seen::Entry(e)) => self.save_count(e.count, Stage::Empty(T6)),
+            (T6, Seen::Place(l)) => self.on_or_deq(l == self.tail, Stage::Empty(C1)),
+            (C1, Seen::Entry(e)) => self.on_or_deq(e.descriptor.pending, Stage::Empty(C2)),
+            (C2, Seen::Entry(e)) => self.on_or_deq(
+                e.descriptor.phase <= self.phase,
+                Stage::Empty(T7),
+            ),
+            (T7, Seen::Entry(e)) => self.keep_phase(e.descriptor.phase, Stage::Empty(T8)),
+            (T8, Seen::Held(held)) => {
                 self.stage = Stage::HelpDeq(HelpDeqStage::C1);
                 if held {
-                    return Outcome::Point { number: self.t3, worker: self.index, kind: Kind::None };
+                    return Outcome::Point {
+                        number: self.t3,
+                        worker: self.index,
+                        kind: Kind::None,
+                    };
                 }
             }
             _ => {}
@@ -138,26 +154,29 @@ impl Worker {
     fn take(&mut self, n: u8, number: u32, at: TakeStage, seen: Seen) -> Outcome
         ensures { λ r. ⌜ record { worker = now (self .exit); outcome = r } ≡ takeAdvance n number (now (self .entry)) seen at ⌝ }
     {
+        use crate::stage::TakeStage::*;
         match (at, seen) {
-            (TakeStage::T9, Seen::Entry(e)) => {
-                self.read_claim(e.count, e.descriptor.node, Stage::Take(TakeStage::C1));
-            }
-            (TakeStage::C1, Seen::Entry(e)) => {
-                self.on_or_next(e.descriptor.pending, Stage::Take(TakeStage::C2), n);
-            }
-            (TakeStage::C2, Seen::Entry(e)) => {
-                self.on_or_next(e.descriptor.phase <= self.phase, Stage::Take(TakeStage::T10), n);
-            }
-            (TakeStage::T10, Seen::Place(h)) => {
+            (T9, Seen::Entry(e)) => self.read_claim(e.count, e.descriptor.node, Stage::Take(C1)),
+            (C1, Seen::Entry(e)) => self.on_or_next(e.descriptor.pending, Stage::Take(C2), n),
+            (C2, Seen::Entry(e)) => self.on_or_next(
+                e.descriptor.phase <= self.phase,
+                Stage::Take(T10),
+                n,
+            ),
+            (T10, Seen::Place(h)) => {
                 let claims = h == self.head && !is_node(self.node, self.head);
-                self.stage = Stage::Take(if claims { TakeStage::T11 } else { TakeStage::T13 });
+                self.stage = Stage::Take(if claims { T11 } else { T13 });
             }
-            (TakeStage::T11, Seen::Entry(e)) => self.keep_phase(e.descriptor.phase, Stage::Take(TakeStage::T12)),
-            (TakeStage::T12, Seen::Held(held)) => self.on_or_deq(held, Stage::Take(TakeStage::T13)),
-            (TakeStage::T13, Seen::Held(held)) => {
+            (T11, Seen::Entry(e)) => self.keep_phase(e.descriptor.phase, Stage::Take(T12)),
+            (T12, Seen::Held(held)) => self.on_or_deq(held, Stage::Take(T13)),
+            (T13, Seen::Held(held)) => {
                 self.stage = Stage::FinishDeq(FinishDeqStage::D1, Return::HelpDeq);
                 if held {
-                    return Outcome::Point { number, worker: self.index, kind: Kind::Fetch };
+                    return Outcome::Point {
+                        number,
+                        worker: self.index,
+                        kind: Kind::Fetch,
+                    };
                 }
             }
             _ => {}
