@@ -1,3 +1,4 @@
+pub mod CheckLaws
 pub mod LineAnswered
 pub mod LineEffects
 pub mod LineGiven
@@ -8,3 +9,5 @@ pub mod LinePlaced
 pub mod LineState
 pub mod MapLaws
 pub mod PlainLaws
+pub mod SampleLaws
+pub mod TurnSamples

@@ -1,9 +1,14 @@
 pub mod AbstractLine
 pub mod Books
+pub mod Checks
 pub mod Events
 pub mod Limits
 pub mod Maps
 pub mod Order
 pub mod PlainList
 pub mod Promise
+pub mod SampleForms
+pub mod Samples
+pub mod SamplesOrder
+pub mod SamplesTold
 pub mod WellTold

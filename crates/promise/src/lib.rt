@@ -2,3 +2,4 @@
 pub mod call;
 pub mod line;
 pub mod reply;
+pub mod samples;

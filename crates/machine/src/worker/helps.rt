@@ -5,6 +5,7 @@ ghost use Prim.Native.Nat.{_<_, _^_};
 ghost use Rattle.machine.specs.Advances.{nextWorker, helpEnq, helpDeq, phaseSeen};
 ghost use Rattle.machine.specs.HelpAdvances.{helpEnqAdvance, helpDeqAdvance, emptyAdvance, takeAdvance, advanceOf};
 ghost use Rattle.machine.specs.Registers.{goto};
+ghost use Rattle.machine.specs.declared.access.Outcome.{Outcome};
 ghost use Rattle.machine.specs.declared.stage.Stage.{Stage};
 use crate::access::Outcome;
 use crate::access::Seen;
@@ -50,6 +51,17 @@ impl Worker {
         };
     }
 
+    // The order of the worker of the loop's index has its point.
+    fn pointed(&self, number: u32, kind: Kind) -> Outcome
+        ensures { λ r. ⌜ r ≡ Outcome.Point number (now (self .entry) .index) kind ⌝ }
+    {
+        Outcome::Point {
+            number,
+            worker: self.index,
+            kind,
+        }
+    }
+
     // Advances in help_enq, in the step of this number.
     fn help_enq(&mut self, n: u8, number: u32, at: HelpEnqStage, seen: Seen) -> Outcome
         ensures { λ r. ⌜ record { worker = now (self .exit); outcome = r } ≡ helpEnqAdvance n number (now (self .entry)) seen at ⌝ }
@@ -77,11 +89,7 @@ impl Worker {
             (P5, Seen::Held(held)) => {
                 if held {
                     self.stage = Stage::FinishEnq(FinishEnqStage::E1, Return::NextWorker);
-                    return Outcome::Point {
-                        number,
-                        worker: self.index,
-                        kind: Kind::Post,
-                    };
+                    return self.pointed(number, Kind::Post);
                 }
                 self.stage = Stage::HelpEnq(C1);
             }
@@ -138,11 +146,7 @@ impl Worker {
             (T8, Seen::Held(held)) => {
                 self.stage = Stage::HelpDeq(HelpDeqStage::C1);
                 if held {
-                    return Outcome::Point {
-                        number: self.t3,
-                        worker: self.index,
-                        kind: Kind::None,
-                    };
+                    return self.pointed(self.t3, Kind::None);
                 }
             }
             _ => {}
@@ -172,11 +176,7 @@ impl Worker {
             (T13, Seen::Held(held)) => {
                 self.stage = Stage::FinishDeq(FinishDeqStage::D1, Return::HelpDeq);
                 if held {
-                    return Outcome::Point {
-                        number,
-                        worker: self.index,
-                        kind: Kind::Fetch,
-                    };
+                    return self.pointed(number, Kind::Fetch);
                 }
             }
             _ => {}
