@@ -16,7 +16,7 @@ use Rattle.std.proofs.shelf.Ways.{decides-and, decides-below-and, decides-eqb, 
 use Rattle.vocabulary.specs.Crews.{allowance}
 use Rattle.vocabulary.specs.declared.kind.Kind.{Kind}
 use Rattle.promise.specs.Books.{Book, blank, afterStep, afterPoint, afterTold}
-use Rattle.promise.specs.Checks.{sameKind, sameOption, ifSome, somePasses, theOne, isEmpty, allBelow, belowB, earlierStepB, numberFitsB, pointFitsB, answerFitsB, fitsB, wellFromB, wellToldB, afterPlacedB, withinLimitB, ownStepLimitB, agreeB, answeredB, apartB, kindB, inOrderB}
+use Rattle.promise.specs.Checks.{sameKind, sameOption, ifSome, somePasses, theOne, isEmpty, allBelow, belowB, earlierStepB, numberFitsB, pointFitsB, answerFitsB, fitsB, wellFromB, wellToldB, afterPlacedB, withinLimitB, ownStepLimitB, agreeB, answeredB, apartB, aboveB, kindB, inOrderB}
 use Rattle.promise.specs.Events.{Event, Point, Answer, Told, told}
 use Rattle.promise.specs.Limits.{stepIn, untilAnswer, afterPlaced, WithinLimit, OwnStepLimit}
 use Rattle.promise.specs.Order.{AnsweredBy, InOrder}
@@ -162,6 +162,9 @@ module _ (b : Book ℕ) where
   decides-apart i j =
       decides-pointed _ _ (λ p. decides-pointed _ _ (λ q. decides-implies (eqb (p .number) (q .number)) (eqb i j) (decides-eqb (p .number) (q .number)) (decides-eqb i j)) j) i
 
+  decides-above : (i : ℕ) → Decides (aboveB b i) ((p : Point) → b .points i ≡ p ∷ [] → b .placing i < p .number)
+  decides-above i = decides-pointed _ _ (λ p. decides-ltb (b .placing i) (p .number)) i
+
   decides-kinds : (i : ℕ) → Decides (kindB b i) ((p : Point) → b .points i ≡ p ∷ [] → p .kind ≡ kindFrom (b .asked i) (plain b (p .number - 1)))
   decides-kinds i = decides-pointed _ _ (λ p. decides-kind (p .kind) (kindFrom (b .asked i) (plain b (p .number - 1)))) i
 
@@ -169,16 +172,18 @@ module _ (b : Book ℕ) where
   decides-in-order strict left =
       decides-like (inOrderB strict b left)
       (λ h. record {
-        answered = λ i a l e. h .0 .0 .0 .0 i l a e;
-        single = h .0 .0 .0 .1;
-        apart = λ i j p q l k e f n. h .0 .0 .1 i l j k p e q f n;
+        answered = λ i a l e. h .0 .0 .0 .0 .0 i l a e;
+        single = h .0 .0 .0 .0 .1;
+        apart = λ i j p q l k e f n. h .0 .0 .0 .1 i l j k p e q f n;
+        above = λ i p l e. h .0 .0 .1 i l p e;
         kinds = λ i p l e. h .0 .1 i l p e;
         remains = h .1;
       })
-      (λ h. ((((λ i l a e. h .answered i a l e, h .single), λ i l j k p e q f n. h .apart i j p q l k e f n), λ i l p e. h .kinds i p l e), h .remains))
+      (λ h. (((((λ i l a e. h .answered i a l e, h .single), λ i l j k p e q f n. h .apart i j p q l k e f n), λ i l p e. h .above i p l e), λ i l p e. h .kinds i p l e), h .remains))
       (decides-all _ _ (decides-answered strict) (b .count)
       and decides-all _ _ (λ i. decides-leb (length (b .points i)) 1) (b .count)
       and decides-all _ _ (λ i. decides-all _ _ (decides-apart i) (b .count)) (b .count)
+      and decides-all _ _ decides-above (b .count)
       and decides-all _ _ decides-kinds (b .count)
       and sameBytes-decides left (plain b (b .steps)))
 

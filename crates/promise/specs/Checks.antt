@@ -122,6 +122,10 @@ singleB b i = leb (length (b .points i)) 1
 abbrev pub apartB : Book ℕ → ℕ → ℕ → Bool
 apartB b i j = ifSome (λ p. ifSome (λ q. not (eqb (p .number) (q .number)) || eqb i j) (theOne (b .points j))) (theOne (b .points i))
 
+-- the point of the order i, if it has one, lies above its placing
+abbrev pub aboveB : Book ℕ → ℕ → Bool
+aboveB b i = ifSome (λ p. ltb (b .placing i) (p .number)) (theOne (b .points i))
+
 -- the order i, if it has one point, has the kind that the plain list gives
 abbrev pub kindB : Book ℕ → ℕ → Bool
 kindB b i = ifSome (λ p. sameKind (p .kind) (kindFrom (b .asked i) (plain b (p .number - 1)))) (theOne (b .points i))
@@ -131,6 +135,7 @@ inOrderB strict b left =
     allBelow (answeredB strict b) (b .count)
     && allBelow (singleB b) (b .count)
     && allBelow (λ i. allBelow (apartB b i) (b .count)) (b .count)
+    && allBelow (aboveB b) (b .count)
     && allBelow (kindB b) (b .count)
     && sameBytes left (plain b (b .steps))
 

@@ -29,7 +29,8 @@ pub record InOrder {T : Type 0} (strict : Bool) (b : Book T) (left : List T) : T
   -- no order has two points, and no two orders share one
   pub single : (i : ℕ) → i < b .count → length (b .points i) ≤ 1
   pub apart : (i j : ℕ) (p q : Point) → i < b .count → j < b .count → b .points i ≡ p ∷ [] → b .points j ≡ q ∷ [] → p .number ≡ q .number → i ≡ j
-  -- a point has the kind that the plain list gives
+  -- a point lies above its order's placing, and has the kind that the plain list gives
+  pub above : (i : ℕ) (p : Point) → i < b .count → b .points i ≡ p ∷ [] → b .placing i < p .number
   pub kinds : (i : ℕ) (p : Point) → i < b .count → b .points i ≡ p ∷ [] → p .kind ≡ kindFrom (b .asked i) (plain b (p .number - 1))
   -- what is left is what the plain list holds after all points
   pub remains : left ≡ plain b (b .steps)
