@@ -49,7 +49,7 @@ module _ {T : Type 0} (strict : Bool) where
         single = k .single;
         apart = λ i j p q l m e f same. let x = k .point i p l e .own in let y = k .point j q m f .own in grind arith;
         above = λ i p l e. k .point i p l e .above;
-      kinds = λ i p l e. k .point i p l e .kind;
+        kinds = λ i p l e. k .point i p l e .kind;
         remains = k .queue;
       }
 
