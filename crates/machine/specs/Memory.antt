@@ -1,7 +1,8 @@
 -- What the workers share, and what one access sees and leaves of it. Nodes and workers are named by any numbers.
-use Prim.Native.Nat.{ℕ, _+_}
+use Prim.Native.Nat.{ℕ, zero, suc, _+_}
 use mathlib.Core.Bool.{Bool, true, false, cond}
 use lib.Dec.{eqb}
+use lib.IntN.{ℤ, pos, negsuc}
 use Rattle.std.specs.declared.option.Option.{Option}
 use Rattle.std.specs.declared.option.Option.the-variants.{Some, None}
 use Rattle.machine.specs.declared.access.Access.{Access}
@@ -18,6 +19,11 @@ pub record Memory : Type 0 where
   pub entry : ℕ → Entry
   -- a node's poster never changes once the node is taken, and costs no access
   pub poster : ℕ → ℕ
+
+-- the stated phase of a stored one, which is one above it: the first is -1
+abbrev pub statedPhase : ℕ → ℤ
+statedPhase zero = negsuc 0
+statedPhase (suc p) = pos p
 
 abbrev pub isNone : Option ℕ → Bool
 isNone None = true

@@ -2,6 +2,7 @@
 use Prim.Native.Nat.{ℕ, zero, suc}
 use mathlib.Core.Path.{_≡_}
 use mathlib.Core.List.{List, [], _∷_}
+use lib.IntN.{ℤ, pos, negsuc}
 use lib.ListN.{length}
 use Rattle.std.specs.declared.option.Option.the-variants.{Some, None}
 use Rattle.std.specs.declared.result.Result.the-variants.{Ok, Err}
@@ -14,6 +15,7 @@ use Rattle.pickers.specs.Turns.{following}
 use Rattle.promise.specs.declared.call.Call.{Call}
 use Rattle.promise.specs.declared.reply.Reply.{Reply}
 use Rattle.machine.specs.Calls.{Run, Played, openedRun, played, left}
+use Rattle.machine.specs.Memory.{statedPhase}
 
 -- the same thing so many times, before the rest
 abbrev pub times : {X : Type 0} → ℕ → X → List X → List X
@@ -57,6 +59,10 @@ told (Reply.Answered w k l p s x ∷ rs) = Reply.Answered w k l p s x ∷ told r
 abbrev pub bundle : Bundle
 bundle = record { field = 7; wavelength = 2; rays = 400 }
 
+-- the phase in the entry of the worker w of a crew of one, as it is stated
+abbrev pub phaseAfter : ℕ → List (Call Bundle) → ℤ
+phaseAfter w cs = statedPhase (playRounds 1 0 cs (openedRun 1 255) .run .state .memory .entry w .descriptor .phase)
+
 -- one bundle is posted and fetched by a crew of one, by turns of rounds
 abbrev pub postThenFetch : List (Call Bundle)
 postThenFetch = Call.Post 0 bundle ∷ times 22 Call.Turn (Call.Fetch 0 ∷ times 31 Call.Turn [])
@@ -77,6 +83,8 @@ pub record Worked-runs : Type 0 where
   -- more steps of the poster answer it
   pub helped : told (repliesOf 2 255 (Call.Post 0 bundle ∷ times 3 (Call.Step 0) (Call.Fetch 1 ∷ times 50 (Call.Step 1) (times 4 (Call.Step 0) []))))
       ≡ Reply.Point 16 0 Kind.Post ∷ Reply.Point 38 1 Kind.Fetch ∷ Reply.Answered 1 Kind.Fetch 3 38 53 (Some bundle) ∷ Reply.Answered 0 Kind.Post 0 16 57 None ∷ []
+  -- every entry begins with phase -1, and the first order announces phase 0
+  pub phases : (phaseAfter 0 [] ≡ negsuc 0) × (phaseAfter 0 (Call.Post 0 bundle ∷ times 2 Call.Turn []) ≡ pos 0)
   -- the frame 0 1 2 1 of a crew of three is lawful and has window 4
   pub frame : (judged 3 (0 ∷ 1 ∷ 2 ∷ 1 ∷ []) ≡ Ok tt) × (length {A = ℕ} (0 ∷ 1 ∷ 2 ∷ 1 ∷ []) ≡ 4)
   -- crew and allowance

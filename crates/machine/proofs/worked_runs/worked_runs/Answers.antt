@@ -14,6 +14,7 @@ returns c =
       empty = refl;
       unstepped = refl;
       helped = refl;
+      phases = (refl, refl);
       frame = (refl, refl);
       crews = (refl, refl, refl);
       allowances = (refl, refl);
