@@ -1,8 +1,6 @@
 // What the reading of a text gives, in the form and the stand-ins of the table.
-ghost use mathlib.Core.Bool.{true};
-ghost use mathlib.Core.Path.{_≡_};
-ghost use Rattle.std.specs.Options.{Cases};
-ghost use Rattle.texts.specs.Places.{place, isNone};
+ghost use Rattle.texts.specs.Places.{place};
+ghost use Rattle.texts_test.specs.FirstFaults.{FirstFault, spotted};
 use crate::shown::Faulted;
 use crate::shown::FaultedDisplay;
 use crate::shown::Named;
@@ -44,9 +42,9 @@ pub impl fmt::Display for CardOutcome<'_> as CardOutcomeDisplay {
     }
 }
 
-// The first fault of a sheet from where it is read on. There is none only if the sheet was read to its end.
+// The first fault of a sheet from where it is read on, none if it is read to its end.
 fn first_fault<'t, T: Element + Copy>(sheet: &mut Reader<'t>) -> Option<Fault<'t>>
-    ensures { λ r. ⌜ Cases r (isNone (place (now (sheet .exit)) .rest) ≡ true) (λ _. Unit {0}) ⌝ }
+    ensures { λ r. ⌜ FirstFault (T·Element .reads) (place (now (sheet .entry))) (spotted r) (place (now (sheet .exit))) ⌝ }
 {
     loop {
         let next = match sheet.next_line::<T>() {
