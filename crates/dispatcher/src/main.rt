@@ -1,5 +1,7 @@
 // The program: reads `card.txt` and `sheet.txt` in its folder and prints the ledger's first line, or the one fault line
 // where the card, the sheet's size or the sheet's first line is bad.
+#![tactic(auto)]
+
 mod head;
 
 use head::head_line;

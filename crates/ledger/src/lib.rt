@@ -1,5 +1,7 @@
 // What is written: numbers, and the lines of ledgers and sheets, each whole into a lent output; and that a sheet's lines
 // are read back as they were written.
+#![tactic(auto)]
+
 mod digits;
 pub mod element;
 mod ledger_lines;

@@ -1,5 +1,7 @@
 // The machine that plays the wait-free queue of Kogan and Petrank: what the workers share, what each keeps for itself,
 // and the one memory access that a step makes.
+#![tactic(auto)]
+
 pub mod access;
 pub mod entry;
 pub mod node;

@@ -1,4 +1,6 @@
 // Pickers, which name the worker that goes next, and what every picker promises.
+#![tactic(auto)]
+
 pub mod frame;
 pub mod picker;
 pub mod round;

@@ -42,9 +42,9 @@ named-two t h =
 too_many : (W : ℕ) (s : Sample) → within_limit_b (λ w. turn_in) (allowance s.crew * W) s.events ≡ false → NamedBy s.crew W s.events → TurnLimit s.crew W s.events → ⊥
 too_many W s e named limit = not_from_Decides _ (decides-within (λ w. turn_in) (allowance s.crew * W) s.events) e (limit named)
 
-pub turns_of_two : BreaksTurns 2 one_turn_too_many × KeepsTurns 2 (turns_of_two [])
+pub turns_of_two-breaks : BreaksTurns 2 one_turn_too_many × KeepsTurns 2 (turns_of_two [])
 unfolding put
-turns_of_two =
+turns_of_two-breaks =
     let s = one_turn_too_many in
     let named : NamedBy 2 2 s.events = named-two (turns 1 Reply.Idle ∷ []) (dues 1, (due 0, turn-of-1, dues 0)) in
     (((told_is s).0 refl, (order_is s).0 refl, (steps-are s).0 refl, named, too_many 2 s refl named), (named-two [] (dues 1), kept (turns_of_two []) refl))
@@ -63,9 +63,9 @@ named-alone (suc k) = (due-alone, (λ b. 1, turn_alone, named-alone k))
 named-one : (k : ℕ) → NamedBy 1 1 (turns_of_one k).events
 named-one k = (λ b. 1, (due-alone, (λ b. 1, λ b l. refl, named-alone k)))
 
-pub turns_of_one : BreaksLimits 1 (turns_of_one 201) × KeepsTurns 1 (turns_of_one 200)
+pub turns_of_one-breaks : BreaksLimits 1 (turns_of_one 201) × KeepsTurns 1 (turns_of_one 200)
 unfolding put
-turns_of_one =
+turns_of_one-breaks =
     let s = turns_of_one 201 in
     (((told_is s).0 refl, (order_is s).0 refl, not_from_Decides _ (steps-are s) refl, named-one 201, too_many 1 s refl (named-one 201)), (named-one 200, kept (turns_of_one 200) refl))
 

@@ -1,6 +1,8 @@
 // Reads the texts of `table.txt` and compares what each gives with what the table says. Each row has a text's name, the
 // text and the outcome, parted by blanks and written in stand-ins (`stand_in.rt`); a line that begins with `-` names
 // the rule that the next rows are about.
+#![tactic(auto)]
+
 mod outcome;
 mod shown;
 mod stand_in;

@@ -6,7 +6,7 @@ use Rattle.promise.specs.Samples.{lawful_samples, too_many_steps_pairs}
 use Rattle.promise.specs.SamplesOrder.{out_of_order_pairs}
 use Rattle.promise.specs.SamplesTold.{ill_told_pairs}
 use Rattle.promise.proofs.SampleLaws.{kept_b, kept, told_apart_b, told-apart, all_from}
-use Rattle.promise.proofs.TurnSamples.{turns_of_two, turns_of_one, window, crew}
+use Rattle.promise.proofs.TurnSamples.{turns_of_two-breaks, turns_of_one-breaks, window, crew}
 use Rattle.promise.proofs.samples.statement_is_sane.Goals as goal
 
 pub returns : goal.returns
@@ -16,8 +16,8 @@ returns c = record {
   told = all_from told_apart_b ToldApart told-apart ill_told_pairs refl;
   ordered = all_from told_apart_b ToldApart told-apart out_of_order_pairs refl;
   limited = all_from told_apart_b ToldApart told-apart too_many_steps_pairs refl;
-  turns_of_two = turns_of_two;
-  turns_of_one = turns_of_one;
+  turns_of_two = turns_of_two-breaks;
+  turns_of_one = turns_of_one-breaks;
   window = window;
   crew = crew;
 }

@@ -3,5 +3,5 @@ use Rattle.std.proofs.Common.{◌++◌, vec_items, ap, ◌∙◌}
 use Rattle.texts_test.specs.StandIns.{bytes_for}
 use Rattle.texts_test.proofs.stand_in.add_for.Goals as goal
 
-pub returns-in-ok-extend-from-slice : goal.returns-in-ok-extend-from-slice
-returns-in-ok-extend-from-slice c = rw c.if-b-eq35.true c.in-ok-extend-from-slice.ensures.items
+pub returns-in_ok-extend_from_slice : goal.returns-in_ok-extend_from_slice
+returns-in_ok-extend_from_slice c = rw c.if-b-eq35.true c.in_ok-extend_from_slice.ensures.items

@@ -10,7 +10,7 @@ added part i bs l h =
     ap (λ (b : List ℕ). b ++ bytes_for (get_or part i 0)) h ∙ flat_map_more bytes_for [] (take i part) (get_or part i 0) ∙ ap (flat_map bytes_for) (sym (take_more part i 0 l))
 
 pub loop-b-preserved : goal.loop-b-preserved
-loop-b-preserved c = c.in-ok-add-for.ensures ∙ added c.args.part.now c.loop-b.b-index _ (omega arith) c.loop-b.invariant
+loop-b-preserved c = c.in_ok-add_for.ensures ∙ added c.args.part.now c.loop-b.b-index _ (omega arith) c.loop-b.invariant
 
 pub returns : goal.returns
 returns c = c.loop-b.invariant ∙ ap (flat_map bytes_for) (take_all _ c.args.part.now (omega arith))

@@ -9,7 +9,7 @@ pub returns-then-c-lt0 : goal.returns-then-c-lt0
 returns-then-c-lt0 c =
     let fits = c.ranges.c in
     let below : lt_z c.args.c (pos 0) ≡ true = simp to_z-of_z at c.if-c-lt0.true in
-    let size : c.bytes.result.now ≡ decimal (nat_abs c.args.c) = c.bytes.ensures.value ∙ c.of-size.ensures ∙ ap decimal (c.unsigned-abs.ensures.value ∙ ap nat_abs (to_z-of_z w32 c.args.c fits)) in
+    let size : c.bytes.result.now ≡ decimal (nat_abs c.args.c) = c.bytes.ensures.value ∙ c.of-size.ensures ∙ ap decimal (c.unsigned_abs.ensures.value ∙ ap nat_abs (to_z-of_z w32 c.args.c fits)) in
     let e = minus-size c.args.c below in
     record { text = search (rules, append_assoc); long = search rules }
 
@@ -17,6 +17,6 @@ pub returns-else-c-lt0 : goal.returns-else-c-lt0
 returns-else-c-lt0 c =
     let fits = c.ranges.c in
     let not-below : lt_z c.args.c (pos 0) ≡ false = simp to_z-of_z at c.if-c-lt0.false in
-    let size : c.bytes-else-c-lt0.result.now ≡ decimal (nat_abs c.args.c) = c.bytes-else-c-lt0.ensures.value ∙ c.of-size.ensures ∙ ap decimal (c.unsigned-abs.ensures.value ∙ ap nat_abs (to_z-of_z w32 c.args.c fits)) in
+    let size : c.bytes-else-c-lt0.result.now ≡ decimal (nat_abs c.args.c) = c.bytes-else-c-lt0.ensures.value ∙ c.of-size.ensures ∙ ap decimal (c.unsigned_abs.ensures.value ∙ ap nat_abs (to_z-of_z w32 c.args.c fits)) in
     let e = plain_size c.args.c not-below in
     record { text = search rules; long = search rules }

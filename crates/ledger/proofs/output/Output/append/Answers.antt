@@ -13,7 +13,7 @@ returns-in-Some c =
     let room = has_room n end bs out here (omega arith) in
     record {
       answer = rw room refl;
-      held = puts n end bs out here (omega arith) c.copy-from-slice.new.self c.copy-from-slice.ensures.after;
+      held = puts n end bs out here (omega arith) c.copy_from_slice.new.self c.copy_from_slice.ensures.after;
       long = rw room (omega arith);
       same = refl;
     }

@@ -8,5 +8,5 @@ use Rattle.machine.proofs.queue.Queue.exchange_successor.Goals as goal
 pub returns-then-held : goal.returns-then-held
 returns-then-held c =
     let l : c.args.j < length c.args.self.now.nodes = search rules in
-    let held : c.is-none-held.result ≡ is_none ((memory_of c.args.self.now).successor c.args.j) = search rules in
+    let held : c.is_none-held.result ≡ is_none ((memory_of c.args.self.now).successor c.args.j) = search rules in
     record { held = held; after = rw (sym held ∙ c.if-held.true) (successor-written c.args.self.now c.args.j c.args.to _ l refl) }

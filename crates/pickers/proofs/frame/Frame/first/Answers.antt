@@ -9,8 +9,14 @@ loop-worker-preserved c =
     let more = up_to-more c.loop-worker.places c.loop-worker.worker (omega arith) c.loop-worker.invariant.1 in
     search rules
 
-pub invariant-of-result : goal.invariant-of-result
-invariant-of-result c =
+pub invariant_of-result : goal.invariant_of-result
+invariant_of-result c =
     let n = c.args.crew.n in
     let row : take c.size-n.result c.loop-worker.places ≡ up_to n = search rules in
-    (search rules, (search rules, (search rules, (ap (all_below n) row ∙ up_to-all_below n, (ap (all_named n) row ∙ up_to-all_named n, tt)))))
+    record {
+      short = search rules;
+      within = search rules;
+      sized = search rules;
+      known = ap (all_below n) row ∙ up_to-all_below n;
+      named = ap (all_named n) row ∙ up_to-all_named n;
+    }

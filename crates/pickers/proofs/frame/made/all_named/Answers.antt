@@ -4,10 +4,10 @@ use Rattle.std.proofs.lemmas.Bool.{and_from}
 use Rattle.pickers.specs.Rows.{all_named-false}
 use Rattle.pickers.proofs.frame.made.all_named.Goals as goal
 
-pub returns-then-not-is-named : goal.returns-then-not-is-named
-returns-then-not-is-named c =
+pub returns-then-not-is_named : goal.returns-then-not-is_named
+returns-then-not-is_named c =
     let e = all_named-false c.args.n c.args.row.now c.loop-worker.worker (omega arith) in
     search (rules, sym, e)
 
 pub loop-worker-preserved : goal.loop-worker-preserved
-loop-worker-preserved c = rw add-one (and_from _ _ (sym c.if-not-is-named.ensures) c.loop-worker.invariant)
+loop-worker-preserved c = rw add-one (and_from _ _ (sym c.if-not-is_named.ensures) c.loop-worker.invariant)

@@ -5,12 +5,18 @@ use Rattle.pickers.specs.Frames.{all_below, all_named}
 use Rattle.pickers.specs.Rows.{judged-accepts}
 use Rattle.pickers.proofs.frame.made.filled.Goals as goal
 
-pub invariant-of-result : goal.invariant-of-result
-invariant-of-result c =
+pub invariant_of-result : goal.invariant_of-result
+invariant_of-result c =
     let n = c.args.frame.crew.n in
     let row = c.args.row.now in
     let rest = drop (length row) c.args.frame.places in
     let ok = judged-accepts n row c.requires in
     let front : take (length row) c.placed.result ≡ row = ap (take (length row)) c.placed.ensures ∙ take_at row rest (length row) refl in
     let sized : length c.placed.result ≡ 64 = ap length c.placed.ensures ∙ simp (length-append, length-drop) (omega arith) in
-    (search rules, (search rules, (sized, (ap (all_below n) front ∙ ok.all_below, (ap (all_named n) front ∙ ok.all_named, tt)))))
+    record {
+      short = search rules;
+      within = search rules;
+      sized = sized;
+      known = ap (all_below n) front ∙ ok.all_below;
+      named = ap (all_named n) front ∙ ok.all_named;
+    }

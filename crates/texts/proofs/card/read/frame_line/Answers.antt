@@ -16,13 +16,13 @@ returns-in-Ok c =
     let frame = c.fill.new.self in
     frame-says n frame.crew.n frame.len frame.at c.row.result.now frame.places (drop (length c.row.result.now) c.first-frame.result.places) (ap (λ k. k.n) (filled.same_crew ∙ first)) filled.row_length filled.at_first filled.row_placed (c.in-Ok.ensures.answer ∙ ap (λ k. judged k.n c.row.result.now) first)
     ∙ ap (frame_of n) c.row.ensures
-    ∙ frame-line n (row_kept c.in-ok-workers.workers) (workers_of v.taken v.left) c.args.crew.few c.in-ok-workers.ensures
+    ∙ frame-line n (row_kept c.in_ok-workers.workers) (workers_of v.taken v.left) c.args.crew.few c.in_ok-workers.ensures
 
 pub returns-in-Err : goal.returns-in-Err
 returns-in-Err c =
     let n = c.args.crew.n in
     let v = row c.args.fields in
-    c.bad-worker.ensures
+    c.bad_worker.ensures
     ∙ ap (λ k. frame_of k c.row-in-Err.result.now) c.size.ensures
     ∙ ap (frame_of n) c.row-in-Err.ensures
-    ∙ frame-line n (row_kept c.in-ok-workers.workers) (workers_of v.taken v.left) c.args.crew.few c.in-ok-workers.ensures
+    ∙ frame-line n (row_kept c.in_ok-workers.workers) (workers_of v.taken v.left) c.args.crew.few c.in_ok-workers.ensures

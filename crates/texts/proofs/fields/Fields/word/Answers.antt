@@ -9,12 +9,12 @@ pub returns : goal.returns
 returns c =
     let self = c.args.self.now in
     let xs = self.rest.now in
-    let n = c.length-before-n.result in
-    let here = c.length-before-n.ensures.value in
+    let n = c.length_before-n.result in
+    let here = c.length_before-n.ensures.value in
     record {
-      value = word-is xs self.more self.taken n c.if-not-self.false here c.split-at.result.0.now c.split-at.ensures.front;
+      value = word-is xs self.more self.taken n c.if-not-self.false here c.split_at.result.0.now c.split_at.ensures.front;
       after = elim c.if-n-rest.branch [
-        | then-n-rest w ↦ ap (λ s. record { left = cond s.1.1.0 (cut 9 s.1.0.now) []; taken = self.taken + 1 }) w.self-is ∙ next_more xs self.more self.taken n c.if-not-self.false here _ w.if-n-rest.true (after-tab xs c.split-at.result.1.now n c.split-at.ensures.back)
+        | then-n-rest w ↦ ap (λ s. record { left = cond s.1.1.0 (cut 9 s.1.0.now) []; taken = self.taken + 1 }) w.self-is ∙ next_more xs self.more self.taken n c.if-not-self.false here _ w.if-n-rest.true (after-tab xs c.split_at.result.1.now n c.split_at.ensures.back)
         | else-n-rest w ↦ ap (λ s. record { left = cond s.1.1.0 (cut 9 s.1.0.now) []; taken = self.taken + 1 }) w.self-is ∙ next_last xs self.more self.taken n c.if-not-self.false here w.if-n-rest.false
       ];
     }

@@ -9,32 +9,32 @@ pub returns-then-end-self : goal.returns-then-end-self
 returns-then-end-self c =
     let self = c.args.self.now in
     let xs = self.text.now in
-    let here : length c.whole-line-line.result.bytes.now ≡ length (before 10 (drop self.at xs)) = ap (λ l. length l.bytes) c.whole-line-line.ensures in
-    let no_end = line-unended xs self.at (length c.whole-line-line.result.bytes.now) here (omega arith) in
+    let here : length c.whole_line-line.result.bytes.now ≡ length (before 10 (drop self.at xs)) = ap (λ l. length l.bytes) c.whole_line-line.ensures in
+    let no_end = line-unended xs self.at (length c.whole_line-line.result.bytes.now) here (omega arith) in
     record {
-      value = rw no_end (ap Err (c.fault.ensures ∙ ap (λ l. bad_line l first_field) c.whole-line-line.ensures));
+      value = rw no_end (ap Err (c.fault.ensures ∙ ap (λ l. bad_line l first_field) c.whole_line-line.ensures));
       after = rw no_end refl;
     }
 
-pub invariant-of-self : goal.invariant-of-self
-invariant-of-self c =
+pub invariant_of-self : goal.invariant_of-self
+invariant_of-self c =
     let self = c.args.self.now in
     let xs = self.text.now in
-    let here : length c.whole-line-line.result.bytes.now ≡ length (before 10 (drop self.at xs)) = ap (λ l. length l.bytes) c.whole-line-line.ensures in
-    let l = line-within xs self.at (length c.whole-line-line.result.bytes.now) here self.within in
+    let here : length c.whole_line-line.result.bytes.now ≡ length (before 10 (drop self.at xs)) = ap (λ l. length l.bytes) c.whole_line-line.ensures in
+    let l = line-within xs self.at (length c.whole_line-line.result.bytes.now) here self.within in
     let ne = c.if-end-self.false in
-    (grind arith, (omega (arith, self.counted), tt))
+    record { within = grind arith; counted = omega (arith, self.counted) }
 
 pub returns : goal.returns
 returns c =
     let self = c.args.self.now in
     let xs = self.text.now in
-    let n = length c.whole-line-line.result.bytes.now in
-    let here : length c.whole-line-line.result.bytes.now ≡ length (before 10 (drop self.at xs)) = ap (λ l. length l.bytes) c.whole-line-line.ensures in
+    let n = length c.whole_line-line.result.bytes.now in
+    let here : length c.whole_line-line.result.bytes.now ≡ length (before 10 (drop self.at xs)) = ap (λ l. length l.bytes) c.whole_line-line.ensures in
     let l = line-within xs self.at n here self.within in
     let ne = c.if-end-self.false in
     let ended = line-ended xs self.at n here (grind arith) in
     record {
-      value = rw ended (ap Ok c.whole-line-line.ensures);
+      value = rw ended (ap Ok c.whole_line-line.ensures);
       after = rw (ended, ← here, rest-after xs self.at n here) refl;
     }

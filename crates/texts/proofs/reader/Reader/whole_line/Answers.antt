@@ -7,5 +7,5 @@ use Rattle.texts.proofs.reader.Reader.whole_line.Goals as goal
 pub returns : goal.returns
 returns c =
     let self = c.args.self.now in
-    let here = c.length-before-n.ensures.value ∙ ap (λ ys. length (before 10 ys)) c.split-at.ensures.back in
-    ap (λ ys. record { text = self.name; number = self.lines + 1; bytes = ys; address = (self.text.ref_ptr.0, self.at + self.text.ref_ptr.1) }) (line-bytes self.text.now self.at c.length-before-n.result here)
+    let here = c.length_before-n.ensures.value ∙ ap (λ ys. length (before 10 ys)) c.split_at.ensures.back in
+    ap (λ ys. record { text = self.name; number = self.lines + 1; bytes = ys; address = (self.text.ref_ptr.0, self.at + self.text.ref_ptr.1) }) (line-bytes self.text.now self.at c.length_before-n.result here)

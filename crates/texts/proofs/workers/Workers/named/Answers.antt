@@ -6,11 +6,11 @@ use Rattle.texts.specs.Workers.{row_kept, row_or}
 use Rattle.texts.proofs.Gathers.{gather-end, gather-bad}
 use Rattle.texts.proofs.workers.Workers.named.Goals as goal
 
-pub returns-in-err-number : goal.returns-in-err-number
-returns-in-err-number c =
-    let p = err_from_is_err_and c.from-residual.result c.from-residual.ensures.1 in
+pub returns-in_err-number : goal.returns-in_err-number
+returns-in_err-number c =
+    let p = err_from_is_err_and c.from_residual.result c.from_residual.ensures.1 in
     let l = row c.loop-fields.fields in
-    rw (p.1, p.2) (gather-bad (row_kept c.loop-fields.workers) l.taken l.left (row c.args.fields).taken (row c.args.fields).left c.in-err-number.field-0.0 (sym c.loop-fields-test.ensures) c.in-err-number.ensures.value c.loop-fields.invariant)
+    rw (p.1, p.2) (gather-bad (row_kept c.loop-fields.workers) l.taken l.left (row c.args.fields).taken (row c.args.fields).left c.in_err-number.field-0.0 (sym c.loop-fields-test.ensures) c.in_err-number.ensures.value c.loop-fields.invariant)
 
 pub returns : goal.returns
 returns c =
