@@ -8,7 +8,7 @@ use Rattle.promise.specs.AbstractLine.{Given, Open}
 use Rattle.promise.specs.Maps.{put}
 use Rattle.machine.specs.declared.entry.OrderKind.{OrderKind}
 use Rattle.machine.specs.Memory.{Memory}
-use Rattle.linearization.proofs.Ghosts.{Ghost, is_pending, kind_of, node_of, phase_of}
+use Rattle.linearization.proofs.Ghosts.{Ghost, is_pending, kind_of, node_of}
 use Rattle.limits.proofs.Totals.{total}
 
 pub record Progress : Type 0 where

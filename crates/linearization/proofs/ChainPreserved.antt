@@ -1,5 +1,5 @@
 -- Each change of the linked nodes, of head, tail or a taker keeps the chain.
-use Rattle.std.proofs.Common.{◌≡◌, ℕ, ◌+◌, ◌<◌, ◌≤◌, Bool, true, Some, None, Option, arith}
+use Rattle.std.proofs.Common.{◌≡◌, ℕ, ◌+◌, ◌<◌, Bool, true, Some, None, Option, arith}
 use Rattle.promise.specs.Maps.{put}
 use Rattle.promise.proofs.MapLaws.{put-tells}
 use Rattle.linearization.proofs.MemoryInvariant.{Chain}

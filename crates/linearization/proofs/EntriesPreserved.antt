@@ -1,14 +1,14 @@
 -- Each change of memory keeps what is known of the entries.
-use Rattle.std.proofs.Common.{◌≡◌, ℕ, ◌+◌, ◌<◌, ◌≤◌, Bool, true, false, ◌≢◌, Some, None, Option, sym, ◌∙◌, arith}
+use Rattle.std.proofs.Common.{◌≡◌, ℕ, ◌+◌, ◌<◌, ◌≤◌, Bool, true, false, ◌≢◌, Some, None, Option, arith}
 use Rattle.promise.specs.Maps.{put}
 use Rattle.promise.proofs.MapLaws.{put-tells}
 use Rattle.machine.specs.declared.entry.OrderKind.{OrderKind}
 use Rattle.machine.specs.Accesses.{described, named}
 use Rattle.machine.specs.Memory.{Memory, with_entry}
-use Rattle.linearization.proofs.Ghosts.{Ghost, put2, is_pending, kind_of, node_of, phase_of, with_poster}
+use Rattle.linearization.proofs.Ghosts.{Ghost, put2, is_pending, kind_of, node_of, phase_of}
 use Rattle.linearization.proofs.GhostLaws.{put2-tells}
-use Rattle.linearization.proofs.MemoryInvariant.{Chain, Entries, ChainOf, EntriesOf}
-use Rattle.linearization.proofs.Transitions.{Linked, Passed, Unlinked, Unannounced}
+use Rattle.linearization.proofs.MemoryInvariant.{Entries, ChainOf, EntriesOf}
+use Rattle.linearization.proofs.Transitions.{Linked, Passed, Unlinked}
 
 module _ {T : Type 0} (m : Memory) (g : Ghost T) (c : ChainOf m g) (d : EntriesOf m g) where
   -- a worker announces its order

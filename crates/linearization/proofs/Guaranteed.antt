@@ -1,21 +1,21 @@
 -- Each transition leaves to the others what they rely on; and so do placing an order and ending one.
-use Rattle.std.proofs.Common.{◌≡◌, ℕ, ◌+◌, ◌<◌, ◌≤◌, Bool, true, false, ◌≢◌, ◌⊎◌, Some, None, Option, sym, refl, ap, ◌∙◌, subst, inl, inr, arith}
+use Rattle.std.proofs.Common.{◌≡◌, ℕ, ◌+◌, ◌<◌, Bool, true, false, Some, None, Option, sym, refl, ap, ◌∙◌, arith}
 use Rattle.promise.specs.AbstractLine.{Open}
 use Rattle.promise.specs.Events.{Asked, Point}
 use Rattle.promise.specs.Maps.{put}
-use Rattle.promise.proofs.MapLaws.{put_same, put_other, put-tells}
+use Rattle.promise.proofs.MapLaws.{put_other, put-tells}
 use Rattle.machine.specs.declared.entry.Descriptor.{Descriptor}
 use Rattle.machine.specs.declared.entry.OrderKind.{OrderKind}
 use Rattle.machine.specs.Accesses.{described}
 use Rattle.machine.specs.Memory.{Memory, with_entry}
-use Rattle.linearization.proofs.Ghosts.{Ghost, Write, written, with_poster, is_pending, kind_of, node_of, phase_of, asked_in, placing_in, found_empty, placed, supplied, ended}
+use Rattle.linearization.proofs.Ghosts.{Ghost, Write, written, with_poster, is_pending, kind_of, node_of, phase_of, asked_in, placing_in, placed, supplied, ended}
 use Rattle.linearization.proofs.GhostLaws.{put2-tells}
 use Rattle.linearization.proofs.Guarantees.{chain-rely-same, chain-rely-linked, chain-rely-taken, chain-rely-moved, chain-rely-supplied, entry-rely-same, entry-rely-announced, Rewrites, entry-rely-rewritten}
-use Rattle.linearization.proofs.MemoryInvariant.{Chain, Entries, Orders, ChainOf, EntriesOf, OrdersOf, MemoryInvariant}
+use Rattle.linearization.proofs.MemoryInvariant.{ChainOf, EntriesOf, OrdersOf, MemoryInvariant}
 use Rattle.linearization.proofs.OrderGuarantees.{order-rely-pending, order-rely-pointed, order-rely-finished, order-rely-settled, order-rely-empty}
 use Rattle.linearization.proofs.Preserved.{not-linked}
-use Rattle.linearization.proofs.Relies.{ChainRelyOf, EntryRely, OrderRely, Rely}
-use Rattle.linearization.proofs.Transitions.{Transition, Linked}
+use Rattle.linearization.proofs.Relies.{ChainRelyOf, OrderRely, Rely}
+use Rattle.linearization.proofs.Transitions.{Transition}
 
 -- what the four writings of an entry by helpers have in common
 module _ {T : Type 0} (m : Memory) (g : Ghost T) (c : ChainOf m g) (d : EntriesOf m g) where

@@ -1,14 +1,13 @@
 -- What each transition leaves to the others, of the chain and of the entries: it meets what they rely on.
-use Rattle.std.proofs.Common.{◌≡◌, ℕ, ◌+◌, ◌<◌, ◌≤◌, Bool, true, false, ◌≢◌, ◌⊎◌, Some, None, Option, sym, refl, ap, ◌∙◌, subst, inl, inr, arith}
+use Rattle.std.proofs.Common.{◌≡◌, ℕ, ◌<◌, ◌≤◌, Bool, true, false, ◌≢◌, Some, None, Option, sym, refl, ap, ◌∙◌, subst, inl, arith}
 use Rattle.promise.specs.Maps.{put}
 use Rattle.promise.proofs.MapLaws.{put_other, put-tells}
 use Rattle.machine.specs.declared.entry.Descriptor.{Descriptor}
 use Rattle.machine.specs.declared.entry.OrderKind.{OrderKind}
 use Rattle.machine.specs.Accesses.{described}
 use Rattle.machine.specs.Memory.{Memory, with_entry}
-use Rattle.linearization.proofs.Ghosts.{Ghost, is_pending, kind_of, node_of, phase_of, count_of}
-use Rattle.linearization.proofs.GhostLaws.{cases-option}
-use Rattle.linearization.proofs.MemoryInvariant.{Chain, Entries, ChainOf, EntriesOf}
+use Rattle.linearization.proofs.Ghosts.{Ghost, is_pending, kind_of, node_of, phase_of}
+use Rattle.linearization.proofs.MemoryInvariant.{ChainOf, EntriesOf}
 use Rattle.linearization.proofs.Relies.{ChainRely, EntryRely}
 use Rattle.linearization.proofs.Transitions.{Linked, Passed}
 

@@ -1,14 +1,13 @@
 -- What closing leaves is what the abstract line's queue holds.
-use Rattle.std.proofs.Common.{◌≡◌, ℕ, zero, suc, ◌+◌, ◌-◌, ◌<◌, ◌≤◌, Bool, true, false, ◌||◌, eqb, ◌≢◌, ◌⊎◌, List, [], ◌∷◌, length, Some, None, Option, sym, refl, ap, ◌∙◌, subst, inl, inr, arith}
-use Rattle.std.proofs.lemmas.Bool.{cases_Bool, cases_eq, or_left, or_right, eq-eqb}
-use Rattle.std.proofs.lemmas.Bool.Decides.{nat_tests}
-use Rattle.pickers.specs.Frames.{names, all_named}
+use Rattle.std.proofs.Common.{◌≡◌, ℕ, zero, suc, ◌+◌, ◌-◌, ◌<◌, ◌≤◌, true, ◌⊎◌, List, [], ◌∷◌, length, Some, None, Option, sym, refl, ap, ◌∙◌, subst, inl, inr, arith}
+use Rattle.std.proofs.lemmas.Bool.{cases_eq, or_left, or_right, eq-eqb}
+use Rattle.pickers.specs.Frames.{names}
 use Rattle.pickers.specs.Rows.{all_named-from, all_named-length}
-use Rattle.machine.specs.Calls.{chain_from, untaken, element_then, elements_of}
+use Rattle.machine.specs.Calls.{chain_from, untaken, elements_of}
 use Rattle.machine.specs.Memory.{Memory}
 use Rattle.linearization.proofs.Ghosts.{Ghost, Holds, front_of}
 use Rattle.linearization.proofs.GhostLaws.{holds-first, holds-empty}
-use Rattle.linearization.proofs.MemoryInvariant.{Chain, Orders, ChainOf, OrdersOf, MemoryInvariant}
+use Rattle.linearization.proofs.MemoryInvariant.{ChainOf, OrdersOf}
 
 -- the positions of the nodes below k, each less one
 abbrev positions : (ℕ → ℕ) → ℕ → List ℕ

@@ -1,6 +1,6 @@
 -- Each transition of the machine is an effect on the abstract line; and what the machine keeps of placings and points is
 -- what the line has.
-use Rattle.std.proofs.Common.{◌≡◌, ℕ, ◌+◌, ◌<◌, ◌≤◌, Bool, true, false, ◌≢◌, ◌⊎◌, Some, None, Option, sym, refl, ap, ◌∙◌, subst, inl, inr, arith}
+use Rattle.std.proofs.Common.{◌≡◌, ℕ, ◌+◌, ◌≤◌, true, ◌⊎◌, Some, None, Option, sym, refl, ◌∙◌, subst, inl, inr, arith}
 use Rattle.std.proofs.lemmas.Bool.{true≢false}
 use Rattle.promise.specs.AbstractLine.{Given, Open, Line, Effect, counting, placing, ending}
 use Rattle.promise.specs.Events.{Asked, Point}
@@ -9,7 +9,6 @@ use Rattle.promise.proofs.MapLaws.{put_same, put_other, put-tells}
 use Rattle.machine.specs.Memory.{Memory}
 use Rattle.machine.specs.States as states
 use Rattle.linearization.proofs.Ghosts.{Ghost, Write, line_of}
-use Rattle.linearization.proofs.GhostLaws.{put_all}
 use Rattle.linearization.proofs.Transitions.{Transition}
 
 -- a point as the machine keeps it

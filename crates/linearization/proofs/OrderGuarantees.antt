@@ -1,21 +1,17 @@
 -- What each transition leaves to the others, of the orders.
-use Rattle.std.proofs.Common.{◌≡◌, ℕ, ◌+◌, ◌<◌, ◌≤◌, Bool, true, false, ◌≢◌, ◌⊎◌, Some, None, Option, sym, refl, ap, ◌∙◌, subst, inl, inr, arith}
+use Rattle.std.proofs.Common.{◌≡◌, ℕ, ◌<◌, true, false, ◌≢◌, Some, None, Option, sym, refl, ap, ◌∙◌, subst, arith}
 use Rattle.vocabulary.specs.declared.kind.Kind.{Kind}
 use Rattle.promise.specs.AbstractLine.{Given, Open}
-use Rattle.promise.specs.Events.{Asked, Point}
 use Rattle.promise.specs.Maps.{put}
 use Rattle.promise.proofs.MapLaws.{put_same, put_other, put-tells}
 use Rattle.machine.specs.declared.entry.OrderKind.{OrderKind}
 use Rattle.machine.specs.Accesses.{described}
 use Rattle.machine.specs.Memory.{Memory, with_entry}
 use Rattle.machine.specs.States.{element_of}
-use Rattle.linearization.proofs.Ghosts.{Ghost, Write, written, with_poster, is_pending, kind_of, node_of, service_in, service, asked_in, placing_in, pointed, found_empty, placed, supplied, ended}
-use Rattle.linearization.proofs.GhostLaws.{put_all, put2-tells}
-use Rattle.linearization.proofs.Guarantees.{chain-rely-same, chain-rely-linked, chain-rely-taken, chain-rely-moved, chain-rely-supplied, entry-rely-same, entry-rely-announced, Rewrites, entry-rely-rewritten}
-use Rattle.linearization.proofs.MemoryInvariant.{Chain, Entries, Orders, ChainOf, EntriesOf, OrdersOf, MemoryInvariant}
-use Rattle.linearization.proofs.Preserved.{not-linked}
-use Rattle.linearization.proofs.Relies.{ChainRelyOf, EntryRely, OrderRely, FetchServed, Rely}
-use Rattle.linearization.proofs.Transitions.{Transition, Linked}
+use Rattle.linearization.proofs.Ghosts.{Ghost, is_pending, kind_of, node_of, service_in, service, asked_in, placing_in, pointed, found_empty}
+use Rattle.linearization.proofs.GhostLaws.{put_all}
+use Rattle.linearization.proofs.MemoryInvariant.{ChainOf, OrdersOf}
+use Rattle.linearization.proofs.Relies.{OrderRely, FetchServed}
 
 module _ {T : Type 0} (u v : ℕ) (m : Memory) (g : Ghost T) where
   -- no entry ceases to be pending

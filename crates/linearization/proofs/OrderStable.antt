@@ -1,5 +1,5 @@
 -- What is known of a worker's own order stays known over another's step.
-use Rattle.std.proofs.Common.{◌≡◌, ℕ, ◌+◌, ◌<◌, ◌≤◌, Bool, true, false, ◌≢◌, ◌⊎◌, Some, None, Option, sym, refl, ap, ◌∙◌, subst, inl, inr, arith}
+use Rattle.std.proofs.Common.{◌≡◌, ℕ, ◌<◌, Bool, true, false, ◌≢◌, Some, None, Option, sym, refl, ap, ◌∙◌, arith}
 use Rattle.std.proofs.lemmas.Bool.{cases_Bool}
 use Rattle.vocabulary.specs.declared.kind.Kind.{Kind}
 use Rattle.promise.specs.AbstractLine.{Open}
@@ -8,12 +8,12 @@ use Rattle.machine.specs.declared.stage.Return.{Return}
 use Rattle.machine.specs.Accesses.{named}
 use Rattle.machine.specs.Memory.{Memory}
 use Rattle.machine.specs.States.{element_of}
-use Rattle.linearization.proofs.Ghosts.{Ghost, is_pending, kind_of, node_of, phase_of, count_of, service_in, service, asked_in, placing_in, as_post}
-use Rattle.linearization.proofs.MemoryInvariant.{Chain, Entries, ChainOf, EntriesOf}
-use Rattle.linearization.proofs.Relies.{ChainRely, ChainRelyOf, EntryRely, OrderRely, FetchServed}
+use Rattle.linearization.proofs.Ghosts.{Ghost, is_pending, service_in, service, asked_in, as_post}
+use Rattle.linearization.proofs.MemoryInvariant.{ChainOf, EntriesOf}
+use Rattle.linearization.proofs.Relies.{ChainRelyOf, EntryRely, OrderRely, FetchServed}
 use Rattle.linearization.proofs.Stable.{was-tail-stable, was-head-stable, passed-stable, helping-stable, helping-in-stable, same-order, phase-stable, kind-stable, unlinked-stable, posted-stable}
-use Rattle.linearization.proofs.StageFacts.{Quiescent, Posted, Announced, Helping, HelpingIn, WasTail, WasHead, BringsHead, FinishingEnq, FinishingDeq, ReadByD2, HelpingEnq, HelpingDeq, SawEmpty}
-use Rattle.linearization.proofs.Transitions.{Linked, Passed, Unlinked, AskedAs, Unannounced}
+use Rattle.linearization.proofs.StageFacts.{Quiescent, Announced, Helping, FinishingEnq, FinishingDeq, ReadByD2, HelpingEnq, HelpingDeq, SawEmpty}
+use Rattle.linearization.proofs.Transitions.{Unannounced}
 
 -- an order that asks something is there
 asking-busy : {T : Type 0} (q q' : Option (Open T)) → asked_in q' ≡ asked_in q → q ≢ None → q' ≢ None

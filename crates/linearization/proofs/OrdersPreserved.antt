@@ -1,5 +1,5 @@
 -- Each change of memory and of the abstract line keeps what is known of the orders.
-use Rattle.std.proofs.Common.{◌≡◌, ℕ, ◌+◌, ◌<◌, ◌≤◌, Bool, true, false, ◌≢◌, List, [], ◌∷◌, ◌++◌, Some, None, Option, sym, refl, ap, ◌∙◌, subst, arith}
+use Rattle.std.proofs.Common.{◌≡◌, ℕ, ◌+◌, ◌<◌, true, false, ◌≢◌, List, [], ◌∷◌, ◌++◌, Some, None, Option, sym, refl, ap, ◌∙◌, arith}
 use Rattle.vocabulary.specs.declared.kind.Kind.{Kind}
 use Rattle.promise.specs.AbstractLine.{Given, Open}
 use Rattle.promise.specs.Events.{Asked}
@@ -10,10 +10,10 @@ use Rattle.machine.specs.declared.entry.OrderKind.{OrderKind}
 use Rattle.machine.specs.Accesses.{described, named}
 use Rattle.machine.specs.Memory.{Memory, with_entry}
 use Rattle.machine.specs.States.{element_of}
-use Rattle.linearization.proofs.Ghosts.{Ghost, pending_in, kind_in, node_in, is_pending, kind_of, node_of, phase_of, service_in, asked_in, as_post, service, front_of, Holds, pointed}
-use Rattle.linearization.proofs.GhostLaws.{put_all, holds-append, holds-first, holds_kept}
-use Rattle.linearization.proofs.MemoryInvariant.{Chain, Entries, Orders, ChainOf, EntriesOf, OrdersOf}
-use Rattle.linearization.proofs.Transitions.{Linked, Passed, Unlinked, AskedAs}
+use Rattle.linearization.proofs.Ghosts.{Ghost, is_pending, kind_of, node_of, service_in, asked_in, as_post, service, front_of, Holds, pointed}
+use Rattle.linearization.proofs.GhostLaws.{put_all, holds-append, holds_kept}
+use Rattle.linearization.proofs.MemoryInvariant.{Orders, ChainOf, EntriesOf, OrdersOf}
+use Rattle.linearization.proofs.Transitions.{Passed, Unlinked, AskedAs}
 
 module _ {T : Type 0} (m : Memory) (g : Ghost T) (o : OrdersOf m g) where
   -- u announces its order, which is not served

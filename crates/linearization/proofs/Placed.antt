@@ -1,5 +1,5 @@
 -- Placing an order is a move of the abstract line, and keeps the invariant. A post may take any fresh node.
-use Rattle.std.proofs.Common.{◌≡◌, ℕ, ◌+◌, ◌<◌, ◌≤◌, Bool, true, false, ◌≢◌, ◌⊎◌, Some, None, Option, sym, refl, ap, ◌∙◌, subst, inl, inr, arith}
+use Rattle.std.proofs.Common.{◌≡◌, ℕ, ◌<◌, ◌≤◌, false, ◌≢◌, Some, None, Option, sym, refl, ap, ◌∙◌, subst, arith}
 use Rattle.promise.specs.AbstractLine.{Open, Move}
 use Rattle.promise.specs.Events.{Asked, Told}
 use Rattle.promise.specs.Maps.{put}
@@ -8,19 +8,17 @@ use Rattle.machine.specs.declared.entry.OrderKind.{OrderKind}
 use Rattle.machine.specs.declared.stage.OrderStage.{OrderStage}
 use Rattle.machine.specs.declared.stage.Stage.{Stage}
 use Rattle.machine.specs.declared.worker.Worker.{Worker}
-use Rattle.machine.specs.Accesses.{named}
 use Rattle.machine.specs.Memory.{Memory}
 use Rattle.machine.specs.States.{State, beginning, posting, fetching}
-use Rattle.linearization.proofs.Ghosts.{Ghost, with_poster, is_pending, service_in, asked_in, as_post, placed, supplied}
+use Rattle.linearization.proofs.Ghosts.{Ghost, with_poster, service_in, asked_in, as_post, placed, supplied}
 use Rattle.linearization.proofs.GhostLaws.{put_all}
 use Rattle.linearization.proofs.Guaranteed.{guaranteed-placed, guaranteed-supplied}
 use Rattle.linearization.proofs.LineEffects.{kept-placed}
-use Rattle.linearization.proofs.MemoryInvariant.{Chain, ChainOf, MemoryInvariant}
 use Rattle.linearization.proofs.Preserved.{preserved-placed, preserved-supplied}
-use Rattle.linearization.proofs.Simulation.{Invariant, line_in, Simulated, others}
+use Rattle.linearization.proofs.Simulation.{Invariant, Simulated, others}
 use Rattle.linearization.proofs.Sound.{Known}
 use Rattle.linearization.proofs.StageFacts.{Quiescent, Scanning, StageFacts}
-use Rattle.linearization.proofs.Transitions.{Linked, Passed, Unlinked, AskedAs, Unannounced}
+use Rattle.linearization.proofs.Transitions.{Unannounced}
 
 -- a scan that has read nothing
 scan_begins : {T : Type 0} (m : Memory) (g : Ghost T) (w q : ℕ) → Scanning m g w 0 q

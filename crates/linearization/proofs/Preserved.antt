@@ -1,12 +1,11 @@
 -- Each transition keeps the invariant of what is shared, and so do placing an order and ending one.
-use Rattle.std.proofs.Common.{◌≡◌, ℕ, ◌+◌, ◌<◌, ◌≤◌, Bool, true, false, ◌≢◌, Some, None, Option, sym, refl, ap, ◌∙◌, arith}
-use Rattle.promise.specs.AbstractLine.{Open}
+use Rattle.std.proofs.Common.{◌≡◌, ℕ, true, false, ◌≢◌, Some, None, Option, sym, refl, ◌∙◌, arith}
 use Rattle.promise.specs.Events.{Asked, Point}
 use Rattle.machine.specs.declared.entry.OrderKind.{OrderKind}
 use Rattle.machine.specs.Memory.{Memory}
 use Rattle.linearization.proofs.Ghosts.{Ghost, Write, written, with_poster, is_pending, kind_of, node_of, placed, supplied, ended}
-use Rattle.linearization.proofs.MemoryInvariant.{Chain, Entries, Orders, ChainOf, EntriesOf, OrdersOf, MemoryInvariant}
-use Rattle.linearization.proofs.Transitions.{Transition, Unannounced}
+use Rattle.linearization.proofs.MemoryInvariant.{ChainOf, EntriesOf, OrdersOf, MemoryInvariant}
+use Rattle.linearization.proofs.Transitions.{Transition}
 use Rattle.linearization.proofs.ChainPreserved.{chain-linked, chain-tail, chain-taken, chain_head, chain-supplied}
 use Rattle.linearization.proofs.EntriesPreserved.{entries-announced, entries-done, entries-named, entries-linked, entries-tail, entries-taken, entries-head, entries-helped, entries-supplied}
 use Rattle.linearization.proofs.OrdersPreserved.{orders-announced, orders-done, orders-named, orders-changed, orders-empty, orders-linked, orders-taken, orders-head, orders-supplied}

@@ -1,29 +1,25 @@
 -- Every call on a run is a move of the abstract line, refused ones too; so the events of every list of calls are those of
 -- a sequence of moves, and what closing would leave is the line's queue. Hence order by points holds of the machine.
-use Rattle.std.proofs.Common.{◌≡◌, ℕ, ◌+◌, ◌<◌, ◌≤◌, Bool, true, false, cond, not, eqb, ltb, leb, ◌≢◌, ◌⊎◌, List, [], ◌∷◌, Some, None, Option, sym, refl, ap, ◌∙◌, subst, inl, inr, arith}
+use Rattle.std.proofs.Common.{◌≡◌, ℕ, ◌+◌, ◌<◌, ◌≤◌, Bool, true, false, not, eqb, ltb, ◌⊎◌, List, [], ◌∷◌, Some, None, Option, sym, refl, ap, ◌∙◌, subst, inl, inr, arith}
 use Rattle.std.proofs.lemmas.Bool.{cases_lt, ltb-true, not-false, eq-eqb, cond-true}
 use Rattle.vocabulary.specs.declared.refusal.Refusal.{Refusal}
-use Rattle.promise.specs.AbstractLine.{Line, Move, Moves, empty_line}
+use Rattle.promise.specs.AbstractLine.{Line, Move, Moves}
 use Rattle.promise.specs.Books.{book_of}
-use Rattle.promise.specs.Events.{Event, Asked, Told, told, on_step}
+use Rattle.promise.specs.Events.{Told, told, on_step}
 use Rattle.promise.specs.Order.{InOrder}
-use Rattle.promise.specs.WellTold.{WellTold}
 use Rattle.promise.specs.declared.call.Call.{Call}
-use Rattle.promise.specs.declared.reply.Reply.{Reply}
 use Rattle.promise.specs.Maps.{put}
 use Rattle.promise.proofs.LineKeeps.{line-keeps-order}
 use Rattle.promise.proofs.MapLaws.{put_same, put_other, put-tells}
 use Rattle.machine.specs.declared.access.Outcome.{Outcome}
 use Rattle.machine.specs.declared.stage.Stage.{Stage}
-use Rattle.machine.specs.Advances.{Advanced}
-use Rattle.machine.specs.Calls.{Run, Played, opened_run, lowest_free, busy, idle_at, unless, post_refusal, fetch_refusal, step_refusal, turn_refusal, with_state, or_else, accepted, stepped, played, elements_of, chain_from, untaken, left}
-use Rattle.machine.specs.Memory.{Memory}
-use Rattle.machine.specs.States.{State, opened, posting, fetching, after_step, stepping, advanced, step_reply}
-use Rattle.linearization.specs.Transcripts.{Asking, Transcript, transcript, MachineKeepsOrder}
+use Rattle.machine.specs.Calls.{Run, Played, opened_run, lowest_free, busy, unless, post_refusal, fetch_refusal, step_refusal, turn_refusal, with_state, or_else, accepted, stepped, played, elements_of, chain_from, untaken, left}
+use Rattle.machine.specs.States.{posting, fetching, after_step, stepping, advanced, step_reply}
+use Rattle.linearization.specs.Transcripts.{Asking, transcript, MachineKeepsOrder}
 use Rattle.linearization.proofs.Ghosts.{Ghost, Holds}
 use Rattle.linearization.proofs.Leaves.{leaves-queue}
 use Rattle.linearization.proofs.Placed.{post-simulated, fetch-simulated}
-use Rattle.linearization.proofs.Simulation.{Invariant, line_in, Simulated, step-simulated}
+use Rattle.linearization.proofs.Simulation.{Invariant, line_in, step-simulated}
 use Rattle.linearization.proofs.SoundStep.{idle-is}
 
 -- the invariant of a run: that of its state, and that the nodes past those used are fresh

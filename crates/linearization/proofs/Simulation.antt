@@ -1,8 +1,8 @@
 -- The machine simulates the abstract line: under the invariant each step is a move of the line, and keeps the invariant.
 use Rattle.std.proofs.Common.{◌≡◌, ℕ, ◌+◌, ◌<◌, ◌≤◌, Bool, true, false, ◌≢◌, ◌⊎◌, Some, None, Option, sym, refl, ap, ◌∙◌, subst, inl, inr, arith}
-use Rattle.std.proofs.lemmas.Bool.{cases_Bool, cases_lt}
-use Rattle.promise.specs.AbstractLine.{Given, Open, Line, Ending, Move, counting, ending}
-use Rattle.promise.specs.Events.{Asked, Point, Answer, Told, on_step}
+use Rattle.std.proofs.lemmas.Bool.{cases_lt}
+use Rattle.promise.specs.AbstractLine.{Given, Open, Line, Ending, Move}
+use Rattle.promise.specs.Events.{Point, Told, on_step}
 use Rattle.promise.specs.declared.reply.Reply.{Reply}
 use Rattle.promise.specs.Maps.{put}
 use Rattle.promise.proofs.MapLaws.{put_same, put_other, put-tells}
@@ -16,16 +16,16 @@ use Rattle.machine.specs.HelpAdvances.{advance_at}
 use Rattle.machine.specs.Memory.{Memory, seen_by, left_by}
 use Rattle.machine.specs.States.{State, element_of, answer_by, reply_of, advanced, after_step, stepping, step_reply}
 use Rattle.linearization.proofs.DeqStable.{stage-stable}
-use Rattle.linearization.proofs.Ghosts.{Ghost, Write, written, line_of, is_pending, Service, service_in, served_by, placing_in, ended}
+use Rattle.linearization.proofs.Ghosts.{Ghost, Write, written, line_of, service_in, served_by, placing_in, ended}
 use Rattle.linearization.proofs.GhostLaws.{put_all, cases-option}
 use Rattle.linearization.proofs.Guaranteed.{guaranteed, guaranteed-ended}
-use Rattle.linearization.proofs.LineEffects.{kept_point, points_after, OrderKept, LineKept, kept-counted, kept-effect, kept-ended, quiet_effect, effect-frees, same-elements, effect_of}
+use Rattle.linearization.proofs.LineEffects.{kept_point, points_after, LineKept, kept-counted, kept-effect, kept-ended, quiet_effect, effect-frees, same-elements, effect_of}
 use Rattle.linearization.proofs.MemoryInvariant.{MemoryInvariant}
 use Rattle.linearization.proofs.Preserved.{preserved, preserved-ended}
 use Rattle.linearization.proofs.Relies.{Rely}
 use Rattle.linearization.proofs.Sound.{Known, Final, Sound}
 use Rattle.linearization.proofs.SoundStep.{idle-is, stage-busy, sound}
-use Rattle.linearization.proofs.StageFacts.{Quiescent, StageFacts}
+use Rattle.linearization.proofs.StageFacts.{StageFacts}
 use Rattle.linearization.proofs.Transitions.{Transition}
 
 -- the whole invariant of a state: of what is shared, of each worker at its stage, of all who are not of the crew, and of

@@ -1,13 +1,12 @@
 -- A step of a worker is sound: it is a transition, and what has to be known at the worker's next stage holds, or its order
 -- is at its end. Here: what that says, and where a worker goes when it has helped somebody, or has finished.
-use Rattle.std.proofs.Common.{◌≡◌, ℕ, ◌+◌, ◌<◌, ◌≤◌, Bool, true, false, cond, eqb, ltb, leb, ◌≢◌, ◌⊎◌, Some, None, Option, sym, refl, ap, ◌∙◌, subst, inl, inr, arith}
-use Rattle.std.proofs.lemmas.Bool.{cond_both, eqb-true, eqb-false, leb-false, ltb-false, false≢true}
+use Rattle.std.proofs.Common.{◌≡◌, ℕ, ◌+◌, ◌<◌, ◌≤◌, Bool, true, false, ltb, ◌≢◌, Some, None, Option, sym, refl, ap, ◌∙◌, arith}
+use Rattle.std.proofs.lemmas.Bool.{cond_both, eqb-true, eqb-false, ltb-false, false≢true}
 use Rattle.vocabulary.specs.declared.kind.Kind.{Kind}
 use Rattle.promise.specs.AbstractLine.{Open}
 use Rattle.promise.specs.Events.{Asked, Point}
 use Rattle.machine.specs.declared.access.Outcome.{Outcome}
 use Rattle.machine.specs.declared.entry.OrderKind.{OrderKind}
-use Rattle.machine.specs.declared.stage.OrderStage.{OrderStage}
 use Rattle.machine.specs.declared.stage.Return.{Return}
 use Rattle.machine.specs.declared.stage.Stage.{Stage}
 use Rattle.machine.specs.declared.worker.Worker.{Worker}
@@ -17,8 +16,8 @@ use Rattle.machine.specs.Memory.{Memory}
 use Rattle.machine.specs.Registers.{goto}
 use Rattle.machine.specs.States.{element_of}
 use Rattle.linearization.proofs.Ghosts.{Ghost, Write, written, is_pending, kind_of, node_of, phase_of, Service, service_in, served_by, asked_in, as_post}
-use Rattle.linearization.proofs.MemoryInvariant.{Chain, Entries, ChainOf, EntriesOf}
-use Rattle.linearization.proofs.StageFacts.{Announced, Helping, HelpingIn, BringsTail, BringsHead, WasTail, WasHead, FinishingEnq, FinishingDeq, OwnOrder, InFinishEnq, InFinishDeq, StageFacts}
+use Rattle.linearization.proofs.MemoryInvariant.{ChainOf, EntriesOf}
+use Rattle.linearization.proofs.StageFacts.{HelpingIn, BringsTail, BringsHead, WasTail, WasHead, FinishingDeq, OwnOrder, InFinishEnq, StageFacts}
 use Rattle.linearization.proofs.Transitions.{Linked, Passed, Transition}
 
 -- of an order whose last step is made: it is served, and its answer tells the element of the node

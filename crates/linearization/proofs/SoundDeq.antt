@@ -1,34 +1,28 @@
 -- The steps of help_finish_deq are sound.
-use Rattle.std.proofs.Common.{◌≡◌, ℕ, ◌+◌, ◌<◌, ◌≤◌, max, Bool, true, false, cond, ◌&&◌, eqb, ltb, leb, ◌≢◌, ◌⊎◌, Some, None, Option, sym, refl, ap, ◌∙◌, subst, inl, inr, arith}
-use Rattle.std.proofs.lemmas.Bool.{cond_both, eqb-true, eqb-false, leb-true, leb-false, ltb-false, and_parts, and_cases}
-use Rattle.vocabulary.specs.declared.kind.Kind.{Kind}
+use Rattle.std.proofs.Common.{◌≡◌, ℕ, ◌+◌, ◌<◌, Bool, true, false, cond, eqb, ◌≢◌, ◌⊎◌, Some, None, Option, sym, refl, ap, ◌∙◌, inl, inr, arith}
+use Rattle.std.proofs.lemmas.Bool.{eqb-true, eqb-false}
 use Rattle.promise.specs.Events.{Point}
-use Rattle.promise.specs.Maps.{put}
-use Rattle.promise.proofs.MapLaws.{put_same, put_other, put-tells}
+use Rattle.promise.proofs.MapLaws.{put_same}
 use Rattle.machine.specs.declared.entry.Entry.{Entry}
 use Rattle.machine.specs.declared.entry.OrderKind.{OrderKind}
 use Rattle.machine.specs.declared.stage.FinishDeqStage.{FinishDeqStage}
-use Rattle.machine.specs.declared.stage.OrderStage.{OrderStage}
 use Rattle.machine.specs.declared.stage.Return.{Return}
 use Rattle.machine.specs.declared.stage.Stage.{Stage}
 use Rattle.machine.specs.declared.worker.Worker.{Worker}
 use Rattle.machine.specs.Accesses.{named, described, access_at}
-use Rattle.machine.specs.Advances.{Advanced, worked, answered, help_of, next_worker, finished_deq, after_d3, after_d5, after_recall, deq}
+use Rattle.machine.specs.Advances.{worked, finished_deq, after_d3, after_d5, deq}
 use Rattle.machine.specs.HelpAdvances.{advance_at}
 use Rattle.machine.specs.Memory.{Memory, seen_by, left_by, with_entry, with_head}
-use Rattle.machine.specs.Registers.{goto, with_node, with_taker}
-use Rattle.machine.specs.States.{element_of}
-use Rattle.linearization.proofs.Ghosts.{Ghost, Write, written, is_pending, kind_of, node_of, phase_of, count_of, service_in, set_out}
-use Rattle.linearization.proofs.GhostLaws.{put2-tells}
+use Rattle.machine.specs.Registers.{goto, with_taker}
+use Rattle.linearization.proofs.Ghosts.{Ghost, Write, written, is_pending, count_of}
 use Rattle.linearization.proofs.Guaranteed.{guaranteed}
-use Rattle.linearization.proofs.MemoryInvariant.{Chain, Entries, Orders, ChainOf, EntriesOf, OrdersOf, MemoryInvariant}
-use Rattle.linearization.proofs.OrderStable.{announced-stable, finishing-deq-stable}
+use Rattle.linearization.proofs.MemoryInvariant.{ChainOf, EntriesOf, MemoryInvariant}
+use Rattle.linearization.proofs.OrderStable.{finishing-deq-stable}
 use Rattle.linearization.proofs.Preserved.{preserved}
-use Rattle.linearization.proofs.Relies.{FetchServed}
-use Rattle.linearization.proofs.Sound.{Known, After, Final, Sound, reads, ends, writes, past_head, to-next-worker, not_own, deq-finished}
-use Rattle.linearization.proofs.SoundEnq.{not-me, own-after}
-use Rattle.linearization.proofs.StageFacts.{Announced, Posted, Helping, FinishingDeq, OwnOrder, OrderFacts, InFinishDeq, FinishDeqFacts, ReadByD2}
-use Rattle.linearization.proofs.Transitions.{Linked, Passed, Unannounced, Transition}
+use Rattle.linearization.proofs.Sound.{Sound, reads, ends, writes, past_head, deq-finished}
+use Rattle.linearization.proofs.SoundEnq.{not-me}
+use Rattle.linearization.proofs.StageFacts.{InFinishDeq, FinishDeqFacts}
+use Rattle.linearization.proofs.Transitions.{Transition}
 
 module _ {T : Type 0} (n w t : ℕ) (m : Memory) (g : Ghost T) (i : MemoryInvariant m g) (crew : w < n) where
   abbrev c : ChainOf m g

@@ -1,11 +1,10 @@
 -- The steps of help_finish_enq and help_enq are sound.
-use Rattle.std.proofs.Common.{◌≡◌, ℕ, ◌+◌, ◌<◌, ◌≤◌, Bool, true, false, cond, eqb, ltb, leb, ◌≢◌, ◌⊎◌, Some, None, Option, sym, refl, ap, ◌∙◌, subst, inl, inr, arith}
+use Rattle.std.proofs.Common.{◌≡◌, ℕ, ◌+◌, ◌<◌, Bool, true, false, cond, eqb, leb, ◌≢◌, ◌⊎◌, Some, None, Option, sym, refl, ap, ◌∙◌, inl, inr, arith}
 use Rattle.std.proofs.lemmas.Bool.{cond_both, eqb-true, eqb-false, leb-true, leb-false}
 use Rattle.vocabulary.specs.declared.kind.Kind.{Kind}
-use Rattle.promise.specs.AbstractLine.{Open}
 use Rattle.promise.specs.Events.{Point}
 use Rattle.promise.specs.Maps.{put}
-use Rattle.promise.proofs.MapLaws.{put_same, put_other, put-tells}
+use Rattle.promise.proofs.MapLaws.{put_same, put-tells}
 use Rattle.machine.specs.declared.entry.Entry.{Entry}
 use Rattle.machine.specs.declared.entry.OrderKind.{OrderKind}
 use Rattle.machine.specs.declared.stage.FinishEnqStage.{FinishEnqStage}
@@ -14,17 +13,17 @@ use Rattle.machine.specs.declared.stage.Return.{Return}
 use Rattle.machine.specs.declared.stage.Stage.{Stage}
 use Rattle.machine.specs.declared.worker.Worker.{Worker}
 use Rattle.machine.specs.Accesses.{named, described, access_at}
-use Rattle.machine.specs.Advances.{Advanced, worked, same_node, next_worker, help_enq, finished_enq, after_e2, enq}
-use Rattle.machine.specs.HelpAdvances.{pointed, finish_enq, after_p3, in_enq, advance_at}
+use Rattle.machine.specs.Advances.{worked, same_node, help_enq, finished_enq, after_e2, enq}
+use Rattle.machine.specs.HelpAdvances.{pointed, finish_enq, after_p3, advance_at}
 use Rattle.machine.specs.Memory.{Memory, is_none, seen_by, left_by, with_entry, with_tail, with_successor}
 use Rattle.machine.specs.Registers.{goto, with_next}
 use Rattle.linearization.proofs.Ghosts.{Ghost, Write, written, is_pending, kind_of, node_of, phase_of, count_of, linked}
 use Rattle.linearization.proofs.Guaranteed.{guaranteed}
-use Rattle.linearization.proofs.MemoryInvariant.{Chain, Entries, Orders, ChainOf, EntriesOf, OrdersOf, MemoryInvariant}
+use Rattle.linearization.proofs.MemoryInvariant.{ChainOf, EntriesOf, MemoryInvariant}
 use Rattle.linearization.proofs.OrderStable.{announced-stable, finishing-enq-stable}
 use Rattle.linearization.proofs.Preserved.{preserved, not-linked}
-use Rattle.linearization.proofs.Sound.{Known, After, Sound, reads, ends, writes, same-node, other-node, waiting, asked-post, past-tail, to-next-worker, not_own, enq-finished, enq-passed}
-use Rattle.linearization.proofs.StageFacts.{Announced, Posted, OwnOrder, InFinishEnq, FinishEnqFacts, InHelpEnq, HelpEnqFacts}
+use Rattle.linearization.proofs.Sound.{Known, Sound, reads, ends, writes, other-node, waiting, asked-post, past-tail, to-next-worker, not_own, enq-finished, enq-passed}
+use Rattle.linearization.proofs.StageFacts.{OwnOrder, InFinishEnq, FinishEnqFacts, InHelpEnq, HelpEnqFacts}
 use Rattle.linearization.proofs.Transitions.{Transition}
 
 pub not-me : (w : ℕ) → w ≢ w + 1

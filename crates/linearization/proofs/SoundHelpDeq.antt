@@ -1,31 +1,27 @@
 -- The steps of help_deq are sound.
-use Rattle.std.proofs.Common.{◌≡◌, ℕ, ◌+◌, ◌<◌, ◌≤◌, max, Bool, true, false, cond, eqb, ltb, leb, ◌≢◌, ◌⊎◌, [], Some, None, Option, sym, refl, ap, ◌∙◌, subst, inl, inr, arith}
-use Rattle.std.proofs.lemmas.Bool.{cond_both, eqb-true, eqb-false, leb-true, leb-false, ltb-false, and_parts, and_cases}
+use Rattle.std.proofs.Common.{◌≡◌, ℕ, ◌+◌, ◌<◌, Bool, true, false, cond, eqb, leb, ◌≢◌, [], Some, None, Option, sym, refl, ap, ◌∙◌, arith}
+use Rattle.std.proofs.lemmas.Bool.{cond_both, eqb-true, eqb-false, leb-true, leb-false}
 use Rattle.vocabulary.specs.declared.kind.Kind.{Kind}
 use Rattle.promise.specs.Events.{Point}
-use Rattle.promise.specs.Maps.{put}
-use Rattle.promise.proofs.MapLaws.{put_same, put_other, put-tells}
-use Rattle.machine.specs.declared.entry.Entry.{Entry}
+use Rattle.promise.proofs.MapLaws.{put_same}
 use Rattle.machine.specs.declared.entry.OrderKind.{OrderKind}
 use Rattle.machine.specs.declared.stage.EmptyStage.{EmptyStage}
 use Rattle.machine.specs.declared.stage.HelpDeqStage.{HelpDeqStage}
-use Rattle.machine.specs.declared.stage.TakeStage.{TakeStage}
-use Rattle.machine.specs.declared.stage.Return.{Return}
 use Rattle.machine.specs.declared.stage.Stage.{Stage}
 use Rattle.machine.specs.declared.worker.Worker.{Worker}
-use Rattle.machine.specs.Accesses.{named, described, access_at}
-use Rattle.machine.specs.Advances.{Advanced, worked, next_worker, help_deq}
+use Rattle.machine.specs.Accesses.{described, access_at}
+use Rattle.machine.specs.Advances.{worked, help_deq}
 use Rattle.machine.specs.HelpAdvances.{pointed, after_t4, advance_at}
 use Rattle.machine.specs.Memory.{Memory, seen_by, left_by, with_entry}
 use Rattle.machine.specs.Registers.{with_t3}
-use Rattle.linearization.proofs.Ghosts.{Ghost, Write, written, is_pending, kind_of, node_of, phase_of, count_of, placing_in, Holds, front_of, marked, found_empty}
+use Rattle.linearization.proofs.Ghosts.{Ghost, Write, written, is_pending, node_of, phase_of, count_of, placing_in, Holds, front_of, marked, found_empty}
 use Rattle.linearization.proofs.GhostLaws.{holds-empty}
 use Rattle.linearization.proofs.Guaranteed.{guaranteed}
-use Rattle.linearization.proofs.MemoryInvariant.{Chain, Entries, Orders, ChainOf, EntriesOf, OrdersOf, MemoryInvariant}
+use Rattle.linearization.proofs.MemoryInvariant.{ChainOf, EntriesOf, MemoryInvariant}
 use Rattle.linearization.proofs.OrderStable.{helping-deq-stable}
-use Rattle.linearization.proofs.Sound.{Known, After, Sound, reads, waiting, asked-fetch, to-next-worker, not_own}
+use Rattle.linearization.proofs.Sound.{Known, Sound, reads, waiting, asked-fetch, to-next-worker, not_own}
 use Rattle.linearization.proofs.SoundEnq.{not-me, own-after}
-use Rattle.linearization.proofs.StageFacts.{Announced, Helping, WasHead, OwnOrder, InHelpDeq, HelpDeqFacts, EmptyFacts}
+use Rattle.linearization.proofs.StageFacts.{WasHead, InHelpDeq, HelpDeqFacts, EmptyFacts}
 use Rattle.linearization.proofs.Stable.{kin-stable}
 use Rattle.linearization.proofs.Transitions.{Transition}
 

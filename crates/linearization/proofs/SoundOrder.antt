@@ -1,35 +1,26 @@
 -- The steps of an order's own are sound: scan, announcement, loop and end.
-use Rattle.std.proofs.Common.{◌≡◌, ℕ, ◌+◌, ◌<◌, ◌≤◌, max, Bool, true, false, cond, ◌&&◌, eqb, ltb, leb, ◌≢◌, ◌⊎◌, Some, None, Option, sym, refl, ap, ◌∙◌, subst, inl, inr, arith}
-use Rattle.std.proofs.lemmas.Bool.{cond_both, eqb-true, eqb-false, leb-true, leb-false, ltb-false, and_parts, and_cases}
+use Rattle.std.proofs.Common.{◌≡◌, ℕ, ◌+◌, ◌<◌, ◌≤◌, true, false, ◌&&◌, ltb, leb, ◌⊎◌, Some, None, Option, sym, refl, ap, ◌∙◌, inl, inr, arith}
+use Rattle.std.proofs.lemmas.Bool.{cond_both, leb-false, ltb-false, and_parts, and_cases}
 use Rattle.vocabulary.specs.declared.kind.Kind.{Kind}
-use Rattle.promise.specs.Events.{Point}
-use Rattle.promise.specs.Maps.{put}
-use Rattle.promise.proofs.MapLaws.{put_same, put_other, put-tells}
+use Rattle.promise.proofs.MapLaws.{put_same}
 use Rattle.machine.specs.declared.entry.Entry.{Entry}
 use Rattle.machine.specs.declared.entry.OrderKind.{OrderKind}
-use Rattle.machine.specs.declared.stage.HelpDeqStage.{HelpDeqStage}
-use Rattle.machine.specs.declared.stage.HelpEnqStage.{HelpEnqStage}
 use Rattle.machine.specs.declared.stage.OrderStage.{OrderStage}
-use Rattle.machine.specs.declared.stage.Return.{Return}
 use Rattle.machine.specs.declared.stage.Stage.{Stage}
 use Rattle.machine.specs.declared.worker.Worker.{Worker}
 use Rattle.machine.specs.Accesses.{named, described, access_at}
-use Rattle.machine.specs.Advances.{Advanced, worked, answered, help_of, next_worker, scanned, after_recall}
+use Rattle.machine.specs.Advances.{worked, answered, help_of, next_worker, scanned, after_recall}
 use Rattle.machine.specs.HelpAdvances.{advance_at}
-use Rattle.machine.specs.Memory.{Memory, seen_by, left_by, with_entry, with_head}
-use Rattle.machine.specs.Registers.{goto, with_node, with_taker}
+use Rattle.machine.specs.Memory.{Memory, seen_by, left_by, with_entry}
+use Rattle.machine.specs.Registers.{goto, with_node}
 use Rattle.machine.specs.States.{element_of}
-use Rattle.linearization.proofs.Ghosts.{Ghost, Write, written, is_pending, kind_of, node_of, phase_of, count_of, service_in, set_out}
+use Rattle.linearization.proofs.Ghosts.{Ghost, Write, is_pending, kind_of, node_of, phase_of, count_of, set_out}
 use Rattle.linearization.proofs.GhostLaws.{put2-tells}
-use Rattle.linearization.proofs.Guaranteed.{guaranteed}
-use Rattle.linearization.proofs.MemoryInvariant.{Chain, Entries, Orders, ChainOf, EntriesOf, OrdersOf, MemoryInvariant}
-use Rattle.linearization.proofs.OrderStable.{announced-stable, finishing-deq-stable}
-use Rattle.linearization.proofs.Preserved.{preserved}
-use Rattle.linearization.proofs.Relies.{FetchServed}
-use Rattle.linearization.proofs.Sound.{Known, After, Final, Sound, reads, ends, writes, past_head, to-next-worker, not_own, deq-finished}
+use Rattle.linearization.proofs.MemoryInvariant.{ChainOf, EntriesOf, MemoryInvariant}
+use Rattle.linearization.proofs.Sound.{Known, Sound, reads, ends, writes, to-next-worker, not_own}
 use Rattle.linearization.proofs.SoundEnq.{own-after}
-use Rattle.linearization.proofs.StageFacts.{Announced, Posted, Helping, FinishingDeq, OwnOrder, OrderFacts, InFinishDeq, FinishDeqFacts, ReadByD2}
-use Rattle.linearization.proofs.Transitions.{Linked, Passed, Unannounced, Transition}
+use Rattle.linearization.proofs.StageFacts.{OwnOrder, OrderFacts}
+use Rattle.linearization.proofs.Transitions.{Transition}
 
 module _ {T : Type 0} (n w t : ℕ) (m : Memory) (g : Ghost T) (i : MemoryInvariant m g) (crew : w < n) where
   abbrev c : ChainOf m g

@@ -1,29 +1,26 @@
 -- The steps of help_deq where there is an element to take are sound.
-use Rattle.std.proofs.Common.{◌≡◌, ℕ, ◌+◌, ◌<◌, ◌≤◌, max, Bool, true, false, cond, not, ◌&&◌, eqb, ltb, leb, ◌≢◌, ◌⊎◌, List, ◌∷◌, Some, None, Option, sym, refl, ap, ◌∙◌, subst, inl, inr, arith}
+use Rattle.std.proofs.Common.{◌≡◌, ℕ, ◌+◌, ◌<◌, ◌≤◌, Bool, true, false, cond, not, ◌&&◌, eqb, leb, ◌≢◌, ◌⊎◌, List, ◌∷◌, Some, None, Option, sym, refl, ap, ◌∙◌, subst, inl, inr, arith}
 use Rattle.std.proofs.lemmas.Bool.{cond_both, eqb-true, eqb-false, leb-true, leb-false, and_parts, and_cases, not-true, not-false}
 use Rattle.vocabulary.specs.declared.kind.Kind.{Kind}
 use Rattle.promise.specs.Events.{Point}
-use Rattle.promise.specs.Maps.{put}
-use Rattle.promise.proofs.MapLaws.{put_same, put_other, put-tells}
+use Rattle.promise.proofs.MapLaws.{put_same}
 use Rattle.machine.specs.declared.entry.Entry.{Entry}
 use Rattle.machine.specs.declared.entry.OrderKind.{OrderKind}
-use Rattle.machine.specs.declared.stage.FinishDeqStage.{FinishDeqStage}
 use Rattle.machine.specs.declared.stage.TakeStage.{TakeStage}
-use Rattle.machine.specs.declared.stage.Return.{Return}
 use Rattle.machine.specs.declared.stage.Stage.{Stage}
 use Rattle.machine.specs.declared.worker.Worker.{Worker}
-use Rattle.machine.specs.Accesses.{named, described, access_at}
-use Rattle.machine.specs.Advances.{Advanced, worked, is_node, next_worker, help_deq}
+use Rattle.machine.specs.Accesses.{described, access_at}
+use Rattle.machine.specs.Advances.{worked, is_node, help_deq}
 use Rattle.machine.specs.HelpAdvances.{pointed, finish_deq, in_take, advance_at}
 use Rattle.machine.specs.Memory.{Memory, is_none, seen_by, left_by, with_entry, with_taker}
-use Rattle.linearization.proofs.Ghosts.{Ghost, Write, written, is_pending, kind_of, node_of, phase_of, count_of, Holds, front_of, taken}
+use Rattle.linearization.proofs.Ghosts.{Ghost, Write, written, is_pending, node_of, phase_of, count_of, Holds, taken}
 use Rattle.linearization.proofs.GhostLaws.{holds-first}
 use Rattle.linearization.proofs.Guaranteed.{guaranteed}
-use Rattle.linearization.proofs.MemoryInvariant.{Chain, Entries, Orders, ChainOf, EntriesOf, OrdersOf, MemoryInvariant}
+use Rattle.linearization.proofs.MemoryInvariant.{ChainOf, EntriesOf, MemoryInvariant}
 use Rattle.linearization.proofs.OrderStable.{helping-deq-stable}
-use Rattle.linearization.proofs.Sound.{Known, After, Sound, reads, writes, is-node, not-node, waiting, asked-fetch, past_head, to-next-worker, not_own}
+use Rattle.linearization.proofs.Sound.{Known, Sound, reads, writes, is-node, not-node, waiting, asked-fetch, past_head, to-next-worker, not_own}
 use Rattle.linearization.proofs.SoundEnq.{not-me, own-after}
-use Rattle.linearization.proofs.StageFacts.{Announced, Helping, WasHead, PendingUpTo, OwnOrder, InHelpDeq, TakeFacts}
+use Rattle.linearization.proofs.StageFacts.{PendingUpTo, InHelpDeq, TakeFacts}
 use Rattle.linearization.proofs.Stable.{helping-stable}
 use Rattle.linearization.proofs.Transitions.{Transition}
 

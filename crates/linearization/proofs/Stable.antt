@@ -1,18 +1,16 @@
 -- What is known of a worker stays known over another's step, by what it may rely on: one lemma for each small fact.
-use Rattle.std.proofs.Common.{◌≡◌, ℕ, ◌+◌, ◌<◌, ◌≤◌, Bool, true, false, ◌≢◌, ◌⊎◌, Some, None, Option, sym, refl, ap, ◌∙◌, subst, inl, inr, arith}
+use Rattle.std.proofs.Common.{◌≡◌, ℕ, ◌<◌, ◌≤◌, true, false, ◌≢◌, ◌⊎◌, Some, None, Option, sym, refl, ap, ◌∙◌, subst, inl, inr, arith}
 use Rattle.std.proofs.lemmas.Bool.{cases_Bool}
-use Rattle.vocabulary.specs.declared.kind.Kind.{Kind}
 use Rattle.machine.specs.declared.entry.Entry.{Entry}
 use Rattle.machine.specs.declared.entry.OrderKind.{OrderKind}
 use Rattle.machine.specs.declared.stage.Return.{Return}
 use Rattle.machine.specs.Accesses.{named}
 use Rattle.machine.specs.Memory.{Memory}
-use Rattle.machine.specs.States.{element_of}
-use Rattle.linearization.proofs.Ghosts.{Ghost, is_pending, kind_of, node_of, phase_of, count_of, service_in, service, asked_in, placing_in, as_post}
-use Rattle.linearization.proofs.MemoryInvariant.{Chain, Entries, ChainOf, EntriesOf}
-use Rattle.linearization.proofs.Relies.{ChainRely, ChainRelyOf, EntryRely, OrderRely, FetchServed}
-use Rattle.linearization.proofs.StageFacts.{Quiescent, Scanning, PhaseChosen, Posted, Announced, Helping, HelpingIn, WasTail, WasHead, IsSuccessor, BringsHead, FinishingEnq, ReadByE3, FinishingDeq, ReadByD2, ReadByD4, TakerSettled, HelpingEnq, HelpingDeq, NamesEarlier, ReadByT9, SawEmpty, HeadWaits}
-use Rattle.linearization.proofs.Transitions.{Linked, Passed, Unlinked, AskedAs, Unannounced}
+use Rattle.linearization.proofs.Ghosts.{Ghost, is_pending, kind_of, node_of, phase_of, count_of}
+use Rattle.linearization.proofs.MemoryInvariant.{ChainOf, EntriesOf}
+use Rattle.linearization.proofs.Relies.{ChainRelyOf, EntryRely}
+use Rattle.linearization.proofs.StageFacts.{Scanning, PhaseChosen, Posted, Helping, HelpingIn, WasTail, WasHead, IsSuccessor, ReadByE3, ReadByD4, TakerSettled, NamesEarlier, ReadByT9, HeadWaits}
+use Rattle.linearization.proofs.Transitions.{Passed, Unlinked}
 
 -- an entry with the count c, or done, stays so where it is kept or done
 late-race : (e e' : Entry) (c : ℕ) → (e.count ≡ c) ⊎ (e.descriptor.pending ≡ false) → (e' ≡ e) ⊎ (e'.descriptor.pending ≡ false) → (e'.count ≡ c) ⊎ (e'.descriptor.pending ≡ false)

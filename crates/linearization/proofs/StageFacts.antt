@@ -1,7 +1,7 @@
 -- What is known of a worker at each stage, besides the invariant of what is shared. A fact about something that was read
 -- a while ago holds under what would have frozen it: an entry whose count is still the saved one, a node that is still
 -- the last, head or tail that is still the same.
-use Rattle.std.proofs.Common.{◌≡◌, ℕ, ◌+◌, ◌<◌, ◌≤◌, Bool, true, false, ◌≢◌, ◌⊎◌, Some, None, Option}
+use Rattle.std.proofs.Common.{◌≡◌, ℕ, ◌+◌, ◌<◌, ◌≤◌, true, false, ◌≢◌, ◌⊎◌, Some, None, Option}
 use Rattle.vocabulary.specs.declared.kind.Kind.{Kind}
 use Rattle.machine.specs.declared.entry.Entry.{Entry}
 use Rattle.machine.specs.declared.entry.OrderKind.{OrderKind}

@@ -1,25 +1,21 @@
 -- What is known of a worker at its stage stays known over another's step: one line for each stage.
-use Rattle.std.proofs.Common.{◌≡◌, ℕ, ◌+◌, ◌<◌, ◌≤◌, Bool, true, false, ◌≢◌, ◌⊎◌, Some, None, Option, sym, refl, ap, ◌∙◌, subst, inl, inr, arith}
+use Rattle.std.proofs.Common.{◌≡◌, ℕ, ◌+◌, ◌<◌, ◌≤◌, false, ◌≢◌, ◌⊎◌, Some, Option, sym, ap, ◌∙◌, subst, inl, inr, arith}
 use Rattle.machine.specs.declared.entry.Entry.{Entry}
 use Rattle.machine.specs.declared.entry.OrderKind.{OrderKind}
-use Rattle.machine.specs.declared.stage.EmptyStage.{EmptyStage}
 use Rattle.machine.specs.declared.stage.FinishDeqStage.{FinishDeqStage}
 use Rattle.machine.specs.declared.stage.FinishEnqStage.{FinishEnqStage}
-use Rattle.machine.specs.declared.stage.HelpDeqStage.{HelpDeqStage}
 use Rattle.machine.specs.declared.stage.HelpEnqStage.{HelpEnqStage}
 use Rattle.machine.specs.declared.stage.OrderStage.{OrderStage}
 use Rattle.machine.specs.declared.stage.Return.{Return}
-use Rattle.machine.specs.declared.stage.Stage.{Stage}
-use Rattle.machine.specs.declared.stage.TakeStage.{TakeStage}
 use Rattle.machine.specs.declared.worker.Worker.{Worker}
 use Rattle.machine.specs.Accesses.{named}
 use Rattle.machine.specs.Memory.{Memory}
-use Rattle.linearization.proofs.Ghosts.{Ghost, is_pending, kind_of, node_of, phase_of, count_of}
-use Rattle.linearization.proofs.MemoryInvariant.{Chain, Entries, ChainOf, EntriesOf}
-use Rattle.linearization.proofs.OrderStable.{quiescent-stable, unannounced-stable, announced-stable, finishing-enq-stable, finishing-deq-stable, read-D2-stable, helping-enq-stable, helping-deq-stable, saw-empty-stable}
-use Rattle.linearization.proofs.Relies.{ChainRely, ChainRelyOf, EntryRely, OrderRely}
-use Rattle.linearization.proofs.Stable.{was-tail-stable, successor-stable, no-successor-before, no-taker-before, passed-stable, poster-stable, read-E3-stable, read-D4-stable, taker-settled-stable, unwritten-stable, unwritten-poster, head-waits-stable, names-earlier-stable, read-T9-stable, same-order, helping-stable, helping-in-stable, same_post, same-fetch, scanning-stable, chosen-stable}
-use Rattle.linearization.proofs.StageFacts.{Announced, Helping, HelpingIn, WasTail, PostOf, FetchOf, PendingUpTo, OrderFacts, FinishEnqFacts, FinishDeqFacts, HelpEnqFacts, HelpDeqFacts, EmptyFacts, TakeFacts, StageFacts}
+use Rattle.linearization.proofs.Ghosts.{Ghost, is_pending, count_of}
+use Rattle.linearization.proofs.MemoryInvariant.{ChainOf, EntriesOf}
+use Rattle.linearization.proofs.OrderStable.{unannounced-stable, announced-stable, finishing-enq-stable, finishing-deq-stable, read-D2-stable, helping-enq-stable}
+use Rattle.linearization.proofs.Relies.{ChainRelyOf, EntryRely, OrderRely}
+use Rattle.linearization.proofs.Stable.{successor-stable, no-successor-before, passed-stable, poster-stable, read-E3-stable, read-D4-stable, taker-settled-stable, unwritten-stable, unwritten-poster, head-waits-stable, same-order, helping-stable, helping-in-stable, same_post, scanning-stable, chosen-stable}
+use Rattle.linearization.proofs.StageFacts.{Announced, Helping, PostOf, FetchOf, PendingUpTo, OrderFacts, FinishEnqFacts, FinishDeqFacts, HelpEnqFacts}
 
 module _ {T : Type 0} (n u v : ℕ) (m : Memory) (g : Ghost T) (m' : Memory) (g' : Ghost T) (c : ChainOf m g) (d : EntriesOf m g) (p : ChainRelyOf m g m' g') (y : EntryRely n u v m g m' g') (z : OrderRely u v m g m' g') (w : ℕ) (o : w ≢ u) (o' : w ≢ v) (crew : w < n) where
   own : {e : OrderKind} {own : Option ℕ} {q i : ℕ} → Announced m g w e own q i → Announced m' g' w e own q i

@@ -1,6 +1,5 @@
 -- How a worker advances: its stage and what its access saw give its next stage, its registers, and what the step tells.
-use Rattle.std.specs.Prelude.{ℕ, ◌+◌, max, Bool, true, false, cond, ◌&&◌, Some, None, Option, ◌==◌, nat_le, nat_lt}
-use Rattle.vocabulary.specs.declared.kind.Kind.{Kind}
+use Rattle.std.specs.Prelude.{ℕ, ◌+◌, max, Bool, false, cond, ◌&&◌, Some, None, Option, ◌==◌, nat_le, nat_lt}
 use Rattle.machine.specs.declared.access.Outcome.{Outcome}
 use Rattle.machine.specs.declared.access.Seen.{Seen}
 use Rattle.machine.specs.declared.entry.Entry.{Entry}
@@ -13,7 +12,7 @@ use Rattle.machine.specs.declared.stage.OrderStage.{OrderStage}
 use Rattle.machine.specs.declared.stage.Return.{Return}
 use Rattle.machine.specs.declared.stage.Stage.{Stage}
 use Rattle.machine.specs.declared.worker.Worker.{Worker}
-use Rattle.machine.specs.Registers.{goto, with_phase, with_index, with_tail, with_head, with_next, with_node, with_taker, with_kept, with_saved, with_t3, with_claim}
+use Rattle.machine.specs.Registers.{goto, with_phase, with_index, with_tail, with_head, with_next, with_node, with_taker, with_kept, with_saved}
 
 pub record Advanced : Type 0 where
   pub worker : Worker

@@ -1,11 +1,10 @@
 -- The calls on a run: which are refused, and the state and the event that each gives.
-use Rattle.std.specs.Prelude.{ℕ, zero, suc, ◌+◌, Bool, true, false, cond, not, List, [], ◌∷◌, Some, None, Option, ◌==◌, nat_le, nat_lt}
+use Rattle.std.specs.Prelude.{ℕ, zero, suc, ◌+◌, Bool, true, false, not, List, [], ◌∷◌, Some, None, Option, ◌==◌, nat_le, nat_lt}
 use Rattle.vocabulary.specs.declared.refusal.Refusal.{Refusal}
 use Rattle.promise.specs.declared.call.Call.{Call}
 use Rattle.promise.specs.declared.reply.Reply.{Reply}
 use Rattle.promise.specs.Events.{Event}
 use Rattle.machine.specs.declared.stage.Stage.{Stage}
-use Rattle.machine.specs.declared.worker.Worker.{Worker}
 use Rattle.machine.specs.States.{State, opened, posting, fetching, stepping, step_reply}
 
 -- a run with a number of nodes of which some are taken; nodes are taken lowest first and used once

@@ -1,5 +1,5 @@
 -- What a counted step may do to the line is lawful: the point that it tells fits, and the invariant is kept.
-use Rattle.std.proofs.Common.{◌≡◌, ℕ, ◌-◌, ◌<◌, ◌≤◌, Bool, true, false, ◌≢◌, ◌⊎◌, List, [], ◌∷◌, ◌++◌, Some, None, Option, sym, refl, ap, ◌∙◌, subst, inl, inr, arith}
+use Rattle.std.proofs.Common.{◌≡◌, ℕ, ◌-◌, ◌<◌, Bool, false, ◌≢◌, List, [], ◌∷◌, ◌++◌, Some, None, Option, sym, refl, ap, ◌∙◌, subst, arith}
 use Rattle.vocabulary.specs.declared.kind.Kind.{Kind}
 use Rattle.promise.specs.AbstractLine.{Given, Open, Line, Effect, giving, unmarking}
 use Rattle.promise.specs.Books.{Book, point_to, after_point}

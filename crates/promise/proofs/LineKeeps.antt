@@ -1,6 +1,6 @@
 -- Every sequence of moves of the abstract line is well told and in order.
-use Rattle.std.proofs.Common.{◌≡◌, ℕ, Bool, List, Some, None, Option, sym, refl, subst, arith}
-use Rattle.promise.specs.AbstractLine.{Given, Open, Line, Ending, Move, Moves, ending, LineKeepsOrder}
+use Rattle.std.proofs.Common.{ℕ, Bool, List, Option, sym, refl, subst, arith}
+use Rattle.promise.specs.AbstractLine.{Line, Ending, Move, Moves, ending, LineKeepsOrder}
 use Rattle.promise.specs.Books.{Book, after_answer, answer_to, after_told, book_from, blank}
 use Rattle.promise.specs.Events.{Event, Answer, Told, told}
 use Rattle.promise.specs.Order.{InOrder}

@@ -1,10 +1,10 @@
 -- Facts of one order pass to another book that agrees on that order and on the plain list below its point.
-use Rattle.std.proofs.Common.{◌≡◌, ℕ, ◌-◌, ◌<◌, ◌≤◌, Bool, List, [], ◌∷◌, Some, None, Option, sym, refl, ap, ◌∙◌, arith}
+use Rattle.std.proofs.Common.{◌≡◌, ℕ, ◌-◌, ◌≤◌, Bool, [], ◌∷◌, Some, None, Option, sym, refl, ◌∙◌, arith}
 use Rattle.promise.specs.AbstractLine.{Given, Open}
 use Rattle.promise.specs.Books.{Book}
-use Rattle.promise.specs.Events.{Asked, Point, Answer}
+use Rattle.promise.specs.Events.{Point, Answer}
 use Rattle.promise.specs.Order.{AnsweredBy}
-use Rattle.promise.specs.PlainList.{kind_from, element_from, plain}
+use Rattle.promise.specs.PlainList.{plain}
 use Rattle.promise.proofs.LineState.{PointsOf, Paired, PointKnown}
 
 -- what a book says of the order i, unchanged

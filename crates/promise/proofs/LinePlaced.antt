@@ -1,5 +1,5 @@
 -- The invariant holds of the empty line, and a placing and a counted step keep it.
-use Rattle.std.proofs.Common.{◌≡◌, ℕ, ◌+◌, ◌-◌, ◌<◌, ◌≤◌, Bool, ◌≢◌, ◌⊎◌, [], Some, None, Option, sym, refl, ap, ◌∙◌, inl, inr, arith}
+use Rattle.std.proofs.Common.{◌≡◌, ℕ, ◌+◌, ◌-◌, ◌<◌, Bool, ◌≢◌, ◌⊎◌, [], Some, None, Option, sym, refl, ap, ◌∙◌, inl, inr, arith}
 use Rattle.std.proofs.lemmas.Bool.{cases_eq, cases_lt}
 use Rattle.promise.specs.AbstractLine.{Open, Line, empty_line, placing, counting}
 use Rattle.promise.specs.Books.{Book, blank, after_placing, after_step}

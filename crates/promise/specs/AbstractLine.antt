@@ -1,6 +1,6 @@
 -- An abstract line of orders: a queue, and each worker's unanswered order with its point. It knows nothing of how a
 -- queue is stored or of what a step touches; a queue that moves like it keeps the order by points.
-use Rattle.std.specs.Prelude.{◌≡◌, ℕ, ◌+◌, ◌<◌, Bool, true, false, List, [], ◌∷◌, ◌++◌, Some, None, Option}
+use Rattle.std.specs.Prelude.{◌≡◌, ℕ, ◌+◌, ◌<◌, Bool, false, List, [], ◌∷◌, ◌++◌, Some, None, Option}
 use Rattle.vocabulary.specs.declared.kind.Kind.{Kind}
 use Rattle.vocabulary.specs.declared.refusal.Refusal.{Refusal}
 use Rattle.promise.specs.Books.{book_of}

@@ -1,5 +1,5 @@
 -- What a list of events tells of its orders: who placed which order and when, the points and answers told for it.
-use Rattle.std.specs.Prelude.{ℕ, ◌+◌, Bool, List, [], ◌∷◌, ◌++◌, Some, None, Option}
+use Rattle.std.specs.Prelude.{ℕ, ◌+◌, List, [], ◌∷◌, ◌++◌, Some, None, Option}
 use Rattle.promise.specs.Maps.{put}
 use Rattle.promise.specs.Events.{Event, Asked, Point, Answer, Told, told}
 

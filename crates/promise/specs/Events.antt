@@ -1,5 +1,5 @@
 -- A call with its reply is an event. What an event tells is read here and nowhere else.
-use Rattle.std.specs.Prelude.{ℕ, Bool, true, false, cond, List, Some, None, Option, ◌==◌}
+use Rattle.std.specs.Prelude.{ℕ, Bool, true, false, cond, Some, None, Option, ◌==◌}
 use Rattle.vocabulary.specs.declared.kind.Kind.{Kind}
 use Rattle.vocabulary.specs.declared.refusal.Refusal.{Refusal}
 use Rattle.promise.specs.declared.call.Call.{Call}

@@ -1,7 +1,7 @@
 -- The own-step limit and the turn limit: how long an order stays unanswered.
 use Rattle.std.specs.Prelude.{◌≡◌, ℕ, ◌+◌, ◌*◌, ◌<◌, ◌≤◌, Bool, true, false, cond, List, [], ◌∷◌, Some, None, Option, ◌==◌, ◌≢◌}
 use Rattle.vocabulary.specs.Crews.{allowance}
-use Rattle.promise.specs.Events.{Event, Asked, Point, Answer, Told, told}
+use Rattle.promise.specs.Events.{Event, Answer, Told, told}
 
 -- whether an event answers the worker's order
 abbrev pub answers_to : {T : Type 0} → ℕ → Option (Answer T) → Bool

@@ -1,5 +1,5 @@
 -- Bytes cut at a separator.
-use Rattle.std.specs.Prelude.{ℕ, Bool, true, false, cond, ◌||◌, List, [], ◌∷◌, ◌==◌}
+use Rattle.std.specs.Prelude.{ℕ, Bool, false, cond, ◌||◌, List, [], ◌∷◌, ◌==◌}
 
 -- the bytes before the first separator; all, if it does not occur
 abbrev pub before : ℕ → List ℕ → List ℕ

@@ -1,5 +1,5 @@
 -- Which element the last fields of a post's line write.
-use Rattle.std.specs.Prelude.{ℕ, cond, Ok, Err, codes, Result}
+use Rattle.std.specs.Prelude.{cond, Ok, Err, codes, Result}
 use Rattle.std.specs.Str.{bytes_eq}
 use Rattle.vocabulary.specs.declared.bundle.Bundle.{Bundle}
 use Rattle.vocabulary.specs.declared.landing.Landing.{Landing}

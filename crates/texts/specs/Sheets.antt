@@ -7,7 +7,7 @@ use Rattle.texts.specs.declared.fault.Bad.{Bad}
 use Rattle.texts.specs.declared.sheet.SheetLine.{SheetLine}
 use Rattle.texts.specs.Faults.{Spot}
 use Rattle.texts.specs.Lines.{Row, row_of, next_row, bad_row, word_at, number_at, end_at, and_then}
-use Rattle.texts.specs.Places.{Place, LineSpot, line_at, after_line, size_of, too_long, judged_line, is_none}
+use Rattle.texts.specs.Places.{Place, line_at, after_line, size_of, too_long, judged_line, is_none}
 
 -- a number from low to high, and nothing after it
 abbrev pub last_number : ℕ → ℕ → Row → Result ℕ Bad

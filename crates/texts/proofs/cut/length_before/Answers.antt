@@ -1,5 +1,5 @@
 -- The bytes passed and those before the separator in what is left make those before it in the whole.
-use Rattle.std.proofs.Common.{◌≡◌, ◌+◌, length, drop, arith}
+use Rattle.std.proofs.Common.{◌≡◌, length, drop, arith}
 use Rattle.std.proofs.lemmas.List.{at_drop_all}
 use Rattle.texts.specs.Cuts.{before}
 use Rattle.texts.proofs.CutLaws.{length-before-more, length-before-none}

@@ -1,6 +1,4 @@
 -- The long run of bytes that `#` stands for is added whole.
-use Rattle.std.proofs.Common.{◌++◌, vec_items, ap, ◌∙◌}
-use Rattle.texts_test.specs.StandIns.{bytes_for}
 use Rattle.texts_test.proofs.stand_in.add_for.Goals as goal
 
 pub returns-in_ok-extend_from_slice : goal.returns-in_ok-extend_from_slice

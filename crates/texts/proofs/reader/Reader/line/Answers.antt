@@ -1,5 +1,5 @@
 -- The next line is ended exactly where a byte of the text follows it.
-use Rattle.std.proofs.Common.{◌≡◌, length, drop, Ok, Err, sym, refl, ap, ◌∙◌, arith, rules}
+use Rattle.std.proofs.Common.{◌≡◌, length, drop, Ok, Err, refl, ap, ◌∙◌, arith}
 use Rattle.texts.specs.Cuts.{before}
 use Rattle.texts.specs.Places.{bad_line, first_field}
 use Rattle.texts.proofs.PlaceLaws.{line-within, line-ended, line-unended, rest-after}

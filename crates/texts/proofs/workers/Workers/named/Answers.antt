@@ -1,8 +1,8 @@
 -- The loop gathers the workers of all fields, up to the first that is no number.
 use Rattle.std.proofs.lemmas.Result.{err_from_is_err_and}
-use Rattle.std.proofs.Common.{sym, ap, ◌∙◌}
+use Rattle.std.proofs.Common.{sym}
 use Rattle.texts.specs.Lines.{row}
-use Rattle.texts.specs.Workers.{row_kept, row_or}
+use Rattle.texts.specs.Workers.{row_kept}
 use Rattle.texts.proofs.Gathers.{gather-end, gather-bad}
 use Rattle.texts.proofs.workers.Workers.named.Goals as goal
 

@@ -1,4 +1,3 @@
-use Rattle.std.proofs.Common.{rules}
 use Rattle.texts.proofs.WorkerLaws.{push-room}
 use Rattle.texts.proofs.workers.Workers.push.Goals as goal
 
