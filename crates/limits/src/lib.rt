@@ -1,10 +1,3 @@
-// The own-step limit and the turn limit hold of the machine, and so does fairness.
+// The own-step limit and the turn limit hold of the machine, and so does fairness: the first lemmas (proofs/); the
+// statements come with the calls that make them.
 #![tactic(auto)]
-
-ghost use Rattle.std.specs.Prelude.{◌≡◌};
-
-pub fn nothing() -> u8
-    ensures { result ≡ 0 }
-{
-    0
-}
