@@ -1,6 +1,6 @@
 -- What the tests compute of a sample is what holds of it.
 use Rattle.std.proofs.Common.{◌≡◌, ℕ, ◌*◌, ◌≤◌, Bool, true, not, ◌&&◌, List, [], ◌∷◌, Decides, mul-le-mul_left, arith}
-use Rattle.std.specs.List.{AllByRecursion as All}
+use Rattle.std.specs.List.{AllByRecursion}
 use Rattle.std.proofs.lemmas.Bool.{and_parts}
 use Rattle.std.proofs.lemmas.Bool.Decides.{Decides-not}
 use Rattle.vocabulary.specs.Crews.{allowance}
@@ -93,6 +93,6 @@ module _ {X : Type 0} (f : X → Bool) where
   all_b [] = true
   all_b (x ∷ xs) = f x && all_b xs
 
-  pub all_from : (P : X → Type 0) → ((x : X) → f x ≡ true → P x) → (xs : List X) → all_b xs ≡ true → All P xs
+  pub all_from : (P : X → Type 0) → ((x : X) → f x ≡ true → P x) → (xs : List X) → all_b xs ≡ true → AllByRecursion P xs
   all_from P each [] e = tt
   all_from P each (x ∷ xs) e = let h = and_parts (f x) (all_b xs) e in (each x h.0, all_from P each xs h.1)

@@ -1,7 +1,7 @@
 -- Samples: lawful transcripts, and wrong ones, each beside the same with the one thing put right. The promise tells them
 -- apart: what is lawful keeps it, and what is wrong breaks the part that it should and no other.
 use Rattle.std.specs.Prelude.{ℕ, List, [], ◌∷◌, ◌++◌, None}
-use Rattle.std.specs.List.{AllByRecursion as All}
+use Rattle.std.specs.List.{AllByRecursion}
 use Rattle.vocabulary.specs.declared.kind.Kind.{Kind}
 use Rattle.vocabulary.specs.declared.refusal.Refusal.{Refusal}
 use Rattle.promise.specs.declared.call.Call.{Call}
@@ -97,11 +97,11 @@ twice_running = turns 1 Reply.Idle ∷ idles 0 ∷ posts 0 7 ∷ works 0 ∷ ref
 
 pub record StatementIsSane : Type 0 where
   -- lawful samples keep the promise
-  pub lawful : All Kept lawful_samples
+  pub lawful : AllByRecursion Kept lawful_samples
   -- wrong ones break the part that they should, and no other; put right, they keep the promise
-  pub told : All ToldApart ill_told_pairs
-  pub ordered : All ToldApart out_of_order_pairs
-  pub limited : All ToldApart too_many_steps_pairs
+  pub told : AllByRecursion ToldApart ill_told_pairs
+  pub ordered : AllByRecursion ToldApart out_of_order_pairs
+  pub limited : AllByRecursion ToldApart too_many_steps_pairs
   -- 1201 turns are too many for a crew of two and the window 2, and 1200 are not
   pub turns_of_two : BreaksTurns 2 one_turn_too_many × KeepsTurns 2 (turns_of_two [])
   -- 201 turns are too many for a crew of one and the window 1, as steps and as turns, and 200 are not
