@@ -6,7 +6,7 @@ use Rattle.texts.specs.declared.fault.Bad.{Bad}
 use Rattle.texts.specs.declared.sheet.SheetLine.{SheetLine}
 use Rattle.texts.specs.Cuts.{before, after, has}
 use Rattle.texts.specs.Lines.{Row, row_of, and_then}
-use Rattle.texts.specs.Places.{Place, line_at, after_line, judged_line, is_none}
+use Rattle.texts.specs.Places.{Place, line_at, after_line, judged_line, all_read}
 use Rattle.texts.specs.Sheets.{kind_line, sheet_line}
 use Rattle.ledger.specs.Lines.{parted, line_of}
 use Rattle.ledger.specs.Reading.{LineInRange, ReadsAs, NextLine}
@@ -32,13 +32,13 @@ module _ (x : List ℕ) (xs : List (List ℕ)) (tabs : Lack 9 (x ∷ xs)) (ends 
         left = ap (after 10) whole ∙ after-piece 10 rest (parted (x ∷ xs)) none;
       }
 
-some_left : (xs : List ℕ) → has 10 xs ≡ true → is_none xs ≡ false
+some_left : (xs : List ℕ) → has 10 xs ≡ true → all_read xs ≡ false
 some_left [] h = cc
 some_left (x ∷ xs) h = refl
 
 -- so does a reader that stands before it
 module _ {A : Type 0} (rule : Row → Result A Bad) (a : A) (written rest : List ℕ) (back : ReadsAs rule written a rest) (p : Place) (here : p.rest ≡ written ++ rest) where
-  pub next-said : cond (is_none p.rest) (Ok None) (and_then (line_at p) (λ l. and_then (judged_line l (rule (row_of l.bytes))) (λ s. Ok (Some s)))) ≡ Ok (Some a)
+  pub next-said : cond (all_read p.rest) (Ok None) (and_then (line_at p) (λ l. and_then (judged_line l (rule (row_of l.bytes))) (λ s. Ok (Some s)))) ≡ Ok (Some a)
   next-said = rw (here, some_left (written ++ rest) back.ended, back.ended, back.said) refl
 
   pub next-left : (after_line p).rest ≡ rest

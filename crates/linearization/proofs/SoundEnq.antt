@@ -1,5 +1,5 @@
 -- The steps of help_finish_enq and help_enq are sound.
-use Rattle.std.proofs.Common.{◌≡◌, ℕ, ◌+◌, ◌<◌, Bool, true, false, cond, eqb, leb, ◌≢◌, ◌⊎◌, Some, None, Option, sym, refl, ap, ◌∙◌, inl, inr, arith}
+use Rattle.std.proofs.Common.{◌≡◌, ℕ, ◌+◌, ◌<◌, Bool, true, false, cond, eqb, leb, ◌≢◌, ◌⊎◌, Some, None, Option, sym, refl, ap, ◌∙◌, inl, inr, arith, is_none}
 use Rattle.std.proofs.lemmas.Bool.{cond_both, eqb-true, eqb-false, leb-true, leb-false}
 use Rattle.vocabulary.specs.declared.kind.Kind.{Kind}
 use Rattle.promise.specs.Events.{Point}
@@ -13,9 +13,9 @@ use Rattle.machine.specs.declared.stage.Return.{Return}
 use Rattle.machine.specs.declared.stage.Stage.{Stage}
 use Rattle.machine.specs.declared.worker.Worker.{Worker}
 use Rattle.machine.specs.Accesses.{named, described, access_at}
-use Rattle.machine.specs.Advances.{worked, same_node, help_enq, finished_enq, after_e2, enq}
-use Rattle.machine.specs.HelpAdvances.{pointed, finish_enq, after_p3, advance_at}
-use Rattle.machine.specs.Memory.{Memory, is_none, seen_by, left_by, with_entry, with_tail, with_successor}
+use Rattle.machine.specs.Advances.{worked, same_node, to_help_enq, finished_enq, after_e2, enq}
+use Rattle.machine.specs.HelpAdvances.{pointed, to_finish_enq, after_p3, advance_at}
+use Rattle.machine.specs.Memory.{Memory, seen_by, left_by, with_entry, with_tail, with_successor}
 use Rattle.machine.specs.Registers.{goto, with_next}
 use Rattle.linearization.proofs.Ghosts.{Ghost, Write, written, is_pending, kind_of, node_of, phase_of, count_of, linked}
 use Rattle.linearization.proofs.Guaranteed.{guaranteed}
@@ -94,18 +94,18 @@ module _ {T : Type 0} (n w t : ℕ) (m : Memory) (g : Ghost T) (i : MemoryInvari
   sound-finish-enq v r FinishEnqStage.E7 f = sound-E7 v r f (eqb (count_of m (m.poster (named v.next))) v.saved) refl
   sound-finish-enq v r FinishEnqStage.E8 f = sound-E8 v r f (eqb m.tail v.tail) refl
 
-  sound-P3 : (v : Worker) → InHelpEnq m g w v → (o : Option ℕ) (b : Bool) → Known m g n w (cond b (after_p3 v o) (help_enq v))
+  sound-P3 : (v : Worker) → InHelpEnq m g w v → (o : Option ℕ) (b : Bool) → Known m g n w (cond b (after_p3 v o) (to_help_enq v))
   sound-P3 v f o false = (f.order, f.help)
   sound-P3 v f None true = f
   sound-P3 v f (Some x) true = (f.order, f.help, λ b. absurd b)
 
   -- P5 links the node of the helped post, if l is still the last node
   sound-P5 : (v : Worker) → HelpEnqFacts m g w v HelpEnqStage.P5 → (o : Option ℕ) → m.successor v.tail ≡ o
-      → Sound n w t m g (cond (is_none o) (with_successor m v.tail v.node) m) (cond (is_none o) (pointed v (finish_enq v Return.NextWorker) t Kind.Post) (worked (help_enq v)))
-  sound-P5 v f (Some y) e = reads n w t m g (help_enq v) (f.0.order, f.0.help)
+      → Sound n w t m g (cond (is_none o) (with_successor m v.tail v.node) m) (cond (is_none o) (pointed v (to_finish_enq v Return.NextWorker) t Kind.Post) (worked (to_help_enq v)))
+  sound-P5 v f (Some y) e = reads n w t m g (to_help_enq v) (f.0.order, f.0.help)
   sound-P5 v f None e = go v.node refl
     where
-      go : (o : Option ℕ) → v.node ≡ o → Sound n w t m g (with_successor m v.tail v.node) (pointed v (finish_enq v Return.NextWorker) t Kind.Post)
+      go : (o : Option ℕ) → v.node ≡ o → Sound n w t m g (with_successor m v.tail v.node) (pointed v (to_finish_enq v Return.NextWorker) t Kind.Post)
       go None h = let a = f.1 e in let q = f.0.help.kin a.0.0 a.0.1 in absurd (d.post_node v.index a.0.0 q (a.1 ∙ h))
       go (Some x) h =
           let a = f.1 e in

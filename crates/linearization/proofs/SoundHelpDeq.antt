@@ -10,7 +10,7 @@ use Rattle.machine.specs.declared.stage.HelpDeqStage.{HelpDeqStage}
 use Rattle.machine.specs.declared.stage.Stage.{Stage}
 use Rattle.machine.specs.declared.worker.Worker.{Worker}
 use Rattle.machine.specs.Accesses.{described, access_at}
-use Rattle.machine.specs.Advances.{worked, help_deq}
+use Rattle.machine.specs.Advances.{worked, to_help_deq}
 use Rattle.machine.specs.HelpAdvances.{pointed, after_t4, advance_at}
 use Rattle.machine.specs.Memory.{Memory, seen_by, left_by, with_entry}
 use Rattle.machine.specs.Registers.{with_t3}
@@ -66,7 +66,7 @@ module _ {T : Type 0} (n w t : ℕ) (m : Memory) (g : Ghost T) (i : MemoryInvari
         );
       }
 
-  sound-T4 : (v : Worker) → HelpDeqFacts m g w v HelpDeqStage.T4 → (o : Option ℕ) → v.next ≡ o → (a b : Bool) → eqb m.head v.head ≡ a → eqb v.head v.tail ≡ b → Known m g n w (cond a (after_t4 v b o) (help_deq v))
+  sound-T4 : (v : Worker) → HelpDeqFacts m g w v HelpDeqStage.T4 → (o : Option ℕ) → v.next ≡ o → (a b : Bool) → eqb m.head v.head ≡ a → eqb v.head v.tail ≡ b → Known m g n w (cond a (after_t4 v b o) (to_help_deq v))
   sound-T4 v f o h false b e j = (f.0.order, f.0.help)
   sound-T4 v f o h true false e j =
       let z = eqb-false _ _ j in
@@ -86,8 +86,8 @@ module _ {T : Type 0} (n w t : ℕ) (m : Memory) (g : Ghost T) (i : MemoryInvari
 
   -- T8 says in the entry that the fetch found nothing, if it was not written since T5
   sound-T8 : (v : Worker) → EmptyFacts m g w v EmptyStage.T8 → (b : Bool) → eqb (count_of m v.index) v.saved ≡ b
-      → Sound n w t m g (cond b (with_entry m v.index (described v.kept_phase false OrderKind.Fetch None)) m) (cond b (pointed v (help_deq v) v.t3 Kind.None) (worked (help_deq v)))
-  sound-T8 v f false e = reads n w t m g (help_deq v) (f.0.order, f.0.help)
+      → Sound n w t m g (cond b (with_entry m v.index (described v.kept_phase false OrderKind.Fetch None)) m) (cond b (pointed v (to_help_deq v) v.t3 Kind.None) (worked (to_help_deq v)))
+  sound-T8 v f false e = reads n w t m g (to_help_deq v) (f.0.order, f.0.help)
   sound-T8 v f true e =
       let z = eqb-true _ _ e in
       let a = f.3 z in

@@ -1,5 +1,5 @@
 -- The steps of help_deq where there is an element to take are sound.
-use Rattle.std.proofs.Common.{◌≡◌, ℕ, ◌+◌, ◌<◌, ◌≤◌, Bool, true, false, cond, not, ◌&&◌, eqb, leb, ◌≢◌, ◌⊎◌, List, ◌∷◌, Some, None, Option, sym, refl, ap, ◌∙◌, subst, inl, inr, arith}
+use Rattle.std.proofs.Common.{◌≡◌, ℕ, ◌+◌, ◌<◌, ◌≤◌, Bool, true, false, cond, not, ◌&&◌, eqb, leb, ◌≢◌, ◌⊎◌, List, ◌∷◌, Some, None, Option, sym, refl, ap, ◌∙◌, subst, inl, inr, arith, is_none}
 use Rattle.std.proofs.lemmas.Bool.{cond_both, eqb-true, eqb-false, leb-true, leb-false, and_parts, and_cases, not-true, not-false}
 use Rattle.vocabulary.specs.declared.kind.Kind.{Kind}
 use Rattle.promise.specs.Events.{Point}
@@ -10,9 +10,9 @@ use Rattle.machine.specs.declared.stage.TakeStage.{TakeStage}
 use Rattle.machine.specs.declared.stage.Stage.{Stage}
 use Rattle.machine.specs.declared.worker.Worker.{Worker}
 use Rattle.machine.specs.Accesses.{described, access_at}
-use Rattle.machine.specs.Advances.{worked, is_node, help_deq}
-use Rattle.machine.specs.HelpAdvances.{pointed, finish_deq, in_take, advance_at}
-use Rattle.machine.specs.Memory.{Memory, is_none, seen_by, left_by, with_entry, with_taker}
+use Rattle.machine.specs.Advances.{worked, is_node, to_help_deq}
+use Rattle.machine.specs.HelpAdvances.{pointed, to_finish_deq, in_take, advance_at}
+use Rattle.machine.specs.Memory.{Memory, seen_by, left_by, with_entry, with_taker}
 use Rattle.linearization.proofs.Ghosts.{Ghost, Write, written, is_pending, node_of, phase_of, count_of, Holds, taken}
 use Rattle.linearization.proofs.GhostLaws.{holds-first}
 use Rattle.linearization.proofs.Guaranteed.{guaranteed}
@@ -55,8 +55,8 @@ module _ {T : Type 0} (n w t : ℕ) (m : Memory) (g : Ghost T) (i : MemoryInvari
 
   -- T12 has the entry name h, if it was not written since T9
   sound-T12 : (v : Worker) → TakeFacts m g w v TakeStage.T12 → (b : Bool) → eqb (count_of m v.index) v.saved ≡ b
-      → Sound n w t m g (cond b (with_entry m v.index (described v.kept_phase true OrderKind.Fetch (Some v.head))) m) (worked (cond b (in_take v TakeStage.T13) (help_deq v)))
-  sound-T12 v f false e = reads n w t m g (help_deq v) (f.0.order, f.0.help)
+      → Sound n w t m g (cond b (with_entry m v.index (described v.kept_phase true OrderKind.Fetch (Some v.head))) m) (worked (cond b (in_take v TakeStage.T13) (to_help_deq v)))
+  sound-T12 v f false e = reads n w t m g (to_help_deq v) (f.0.order, f.0.help)
   sound-T12 v f true e =
       let z = eqb-true _ _ e in
       let a = f.3 z in
@@ -87,8 +87,8 @@ module _ {T : Type 0} (n w t : ℕ) (m : Memory) (g : Ghost T) (i : MemoryInvari
 
   -- T13 makes the helped fetch the taker of h, if it has none
   sound-T13 : (v : Worker) → TakeFacts m g w v TakeStage.T13 → (o : Option ℕ) → m.taker v.head ≡ o
-      → Sound n w t m g (cond (is_none o) (with_taker m v.head v.index) m) (cond (is_none o) (pointed v (finish_deq v) t Kind.Fetch) (worked (finish_deq v)))
-  sound-T13 v f (Some x) e = reads n w t m g (finish_deq v) (f.0.order, f.0.help, tt, λ b. absurd b)
+      → Sound n w t m g (cond (is_none o) (with_taker m v.head v.index) m) (cond (is_none o) (pointed v (to_finish_deq v) t Kind.Fetch) (worked (to_finish_deq v)))
+  sound-T13 v f (Some x) e = reads n w t m g (to_finish_deq v) (f.0.order, f.0.help, tt, λ b. absurd b)
   sound-T13 v f None e =
       let a = f.1 e in
       let p = a.0.0 in

@@ -75,26 +75,26 @@ last_of OrderKind.Fetch = Stage.FinishDeq FinishDeqStage.D1 Return.End
 abbrev pub next_worker : ℕ → Worker → Worker
 next_worker n v = cond (nat_lt (v.index + 1) n) (with_index v (v.index + 1) (Stage.Order OrderStage.Look)) (goto v (last_of v.kind))
 
-abbrev pub help_enq : Worker → Worker
-help_enq v = goto v (Stage.HelpEnq HelpEnqStage.C1)
+abbrev pub to_help_enq : Worker → Worker
+to_help_enq v = goto v (Stage.HelpEnq HelpEnqStage.C1)
 
-abbrev pub help_deq : Worker → Worker
-help_deq v = goto v (Stage.HelpDeq HelpDeqStage.C1)
+abbrev pub to_help_deq : Worker → Worker
+to_help_deq v = goto v (Stage.HelpDeq HelpDeqStage.C1)
 
 abbrev pub answered : Worker → Option ℕ → Advanced
 answered v node = record { worker = goto v Stage.Idle; outcome = Outcome.Answered node }
 
 -- the end of help_finish_enq: a post's own last one answers it
 abbrev pub finished_enq : ℕ → Worker → Return → Advanced
-finished_enq n v Return.HelpEnq = worked (help_enq v)
-finished_enq n v Return.HelpDeq = worked (help_deq v)
+finished_enq n v Return.HelpEnq = worked (to_help_enq v)
+finished_enq n v Return.HelpDeq = worked (to_help_deq v)
 finished_enq n v Return.NextWorker = worked (next_worker n v)
 finished_enq n v Return.End = answered v None
 
 -- the end of help_finish_deq: after a fetch's own last one it reads its entry
 abbrev pub finished_deq : ℕ → Worker → Return → Advanced
-finished_deq n v Return.HelpEnq = worked (help_enq v)
-finished_deq n v Return.HelpDeq = worked (help_deq v)
+finished_deq n v Return.HelpEnq = worked (to_help_enq v)
+finished_deq n v Return.HelpDeq = worked (to_help_deq v)
 finished_deq n v Return.NextWorker = worked (next_worker n v)
 finished_deq n v Return.End = worked (goto v (Stage.Order OrderStage.Recall))
 
@@ -103,8 +103,8 @@ after_recall v None = answered v None
 after_recall v (Some m) = worked (with_node v (Some m) (Stage.Order OrderStage.Follow))
 
 abbrev pub help_of : OrderKind → Worker → Worker
-help_of OrderKind.Post v = help_enq v
-help_of OrderKind.Fetch v = help_deq v
+help_of OrderKind.Post v = to_help_enq v
+help_of OrderKind.Fetch v = to_help_deq v
 
 -- the next entry's phase was read; after the last, the worker's p is the largest phase plus 1 (stored phases are one above
 -- the stated ones, and so is p)

@@ -1,5 +1,5 @@
 -- What the workers share, and what one access sees and leaves of it. Nodes and workers are named by any numbers.
-use Rattle.std.specs.Prelude.{ℕ, zero, suc, ◌+◌, Bool, true, false, cond, ℤ, pos, negsuc, Some, None, Option, ◌==◌}
+use Rattle.std.specs.Prelude.{ℕ, zero, suc, ◌+◌, Bool, cond, ℤ, pos, negsuc, is_none, Some, Option, ◌==◌}
 use Rattle.machine.specs.declared.access.Access.{Access}
 use Rattle.machine.specs.declared.access.Seen.{Seen}
 use Rattle.machine.specs.declared.entry.Descriptor.{Descriptor}
@@ -19,10 +19,6 @@ pub record Memory : Type 0 where
 abbrev pub stated_phase : ℕ → ℤ
 stated_phase zero = negsuc 0
 stated_phase (suc p) = pos p
-
-abbrev pub is_none : Option ℕ → Bool
-is_none None = true
-is_none (Some x) = false
 
 -- whether an exchange holds
 abbrev pub entry_holds : Memory → ℕ → ℕ → Bool

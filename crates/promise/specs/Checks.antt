@@ -1,6 +1,6 @@
 -- Tests of what is promised, for elements that are numbers. Each computes, and is true exactly where the statement of the
 -- same name holds: `fits_b` where `Fits` does.
-use Rattle.std.specs.Prelude.{ℕ, zero, suc, ◌-◌, ◌*◌, Bool, true, false, not, ◌&&◌, ◌||◌, ltb, List, [], ◌∷◌, length, is_some, Some, None, Option, ◌==◌, nat_le, nat_lt}
+use Rattle.std.specs.Prelude.{ℕ, zero, suc, ◌-◌, ◌*◌, Bool, true, false, not, ◌&&◌, ◌||◌, List, [], ◌∷◌, length, is_some, Some, None, Option, ◌==◌, nat_le, nat_lt}
 use Rattle.std.specs.Str.{bytes_eq}
 use Rattle.vocabulary.specs.Crews.{allowance}
 use Rattle.vocabulary.specs.declared.kind.Kind.{Kind}
@@ -61,7 +61,7 @@ abbrev pub busy_b : Book ℕ → ℕ → Bool
 busy_b b w = is_some (b.current w)
 
 abbrev pub earlier_step_b : Bool → Book ℕ → ℕ → ℕ → Bool
-earlier_step_b strict b w number = same_option (b.stepper number) (Some w) && below_b strict number b.steps && if_some (λ i. ltb (b.placing i) number) (b.current w)
+earlier_step_b strict b w number = same_option (b.stepper number) (Some w) && below_b strict number b.steps && if_some (λ i. nat_lt (b.placing i) number) (b.current w)
 
 abbrev pub number_fits_b : Bool → Book ℕ → ℕ → Kind → ℕ → Bool
 number_fits_b strict b w Kind.Post number = number == b.steps
@@ -117,7 +117,7 @@ apart_b b i j = if_some (λ p. if_some (λ q. not (p.number == q.number) || i ==
 
 -- the point of the order i, if it has one, lies above its placing
 abbrev pub above_b : Book ℕ → ℕ → Bool
-above_b b i = if_some (λ p. ltb (b.placing i) p.number) (the_one (b.points i))
+above_b b i = if_some (λ p. nat_lt (b.placing i) p.number) (the_one (b.points i))
 
 -- the order i, if it has one point, has the kind that the plain list gives
 abbrev pub kind_b : Book ℕ → ℕ → Bool

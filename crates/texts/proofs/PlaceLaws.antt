@@ -4,7 +4,7 @@ use Rattle.std.proofs.lemmas.List.{drop-drop, length-drop}
 use Rattle.std.proofs.lemmas.Bool.{lt-ltb, le-ltb}
 use Rattle.std.proofs.lemmas.Bool.Decides.{nat_tests}
 use Rattle.texts.specs.Cuts.{before, after, has}
-use Rattle.texts.specs.Places.{is_none}
+use Rattle.texts.specs.Places.{all_read}
 use Rattle.texts.proofs.CutLaws.{has-is, after_is, before-is, before-le}
 
 -- a text xs read up to a, with n bytes before the next byte 10
@@ -27,9 +27,9 @@ module _ (xs : List ℕ) (a n : ℕ) (here : n ≡ length (before 10 (drop a xs)
       sym (after_is 10 (drop a xs) ∙ drop-drop (suc (length (before 10 (drop a xs)))) a xs ∙ ap (λ k. drop k xs) e)
 
 -- nothing is left of a text exactly where all of it was read
-pub rest-none : (xs : List ℕ) (a : ℕ) → a ≤ length xs → eqb a (length xs) ≡ is_none (drop a xs)
+pub rest-none : (xs : List ℕ) (a : ℕ) → a ≤ length xs → eqb a (length xs) ≡ all_read (drop a xs)
 rest-none xs a l = by_cases (drop a xs) (length-drop a xs)
   where
-    by_cases : (zs : List ℕ) → length zs ≡ length xs - a → eqb a (length xs) ≡ is_none zs
+    by_cases : (zs : List ℕ) → length zs ≡ length xs - a → eqb a (length xs) ≡ all_read zs
     by_cases [] e = grind (arith, nat_tests)
     by_cases (z ∷ zs) e = grind (arith, nat_tests)

@@ -5,7 +5,7 @@ use Rattle.texts.specs.declared.fault.Bad.{Bad}
 use Rattle.texts.specs.declared.sheet.SheetLine.{SheetLine}
 use Rattle.texts.specs.Cuts.{has}
 use Rattle.texts.specs.Lines.{Row}
-use Rattle.texts.specs.Places.{Place, after_line, whole_line, bad_line, first_field, is_none}
+use Rattle.texts.specs.Places.{Place, after_line, whole_line, bad_line, first_field, all_read}
 use Rattle.texts.specs.Sheets.{sheet_line_at}
 use Rattle.texts.proofs.CutLaws.{after-shorter}
 
@@ -14,8 +14,8 @@ module _ {T : Type 0} (reads : Row → Result T Bad) (p : Place) where
   line-was-ended : (s : SheetLine T) → Ok (Some s) ≡ sheet_line_at reads p → has 10 p.rest ≡ true
   line-was-ended s e = elim (cases_Bool (has 10 p.rest)) [ inl t ↦ t | inr f ↦ go f (rw f at e) ]
     where
-      go : has 10 p.rest ≡ false → Ok (Some s) ≡ cond (is_none p.rest) (Ok None) (Err (bad_line (whole_line p) first_field)) → has 10 p.rest ≡ true
-      go f e = elim (cases_Bool (is_none p.rest)) [ inl t ↦ grind arith | inr n ↦ grind arith ]
+      go : has 10 p.rest ≡ false → Ok (Some s) ≡ cond (all_read p.rest) (Ok None) (Err (bad_line (whole_line p) first_field)) → has 10 p.rest ≡ true
+      go f e = elim (cases_Bool (all_read p.rest)) [ inl t ↦ grind arith | inr n ↦ grind arith ]
 
   pub next-shorter : (s : SheetLine T) → Ok (Some s) ≡ sheet_line_at reads p → length (after_line p).rest < length p.rest
   next-shorter s e = let h = line-was-ended s e in rw h (after-shorter 10 p.rest h)

@@ -66,13 +66,13 @@ abbrev pub after_line : Place → Place
 after_line p = cond (has 10 p.rest) (next_place p) p
 
 -- whether nothing is left
-abbrev pub is_none : List ℕ → Bool
-is_none [] = true
-is_none (x ∷ xs) = false
+abbrev pub all_read : List ℕ → Bool
+all_read [] = true
+all_read (x ∷ xs) = false
 
 -- no line is left; a surplus one is a fault
 abbrev pub end_of_text : Place → Result (Unit {0}) Spot
-end_of_text p = cond (is_none p.rest) (Ok tt) (Err (bad_line (whole_line p) first_field))
+end_of_text p = cond (all_read p.rest) (Ok tt) (Err (bad_line (whole_line p) first_field))
 
 -- a text has at most 65,536 bytes
 abbrev pub too_long : Place → Bool

@@ -7,7 +7,7 @@ use Rattle.texts.specs.declared.fault.Bad.{Bad}
 use Rattle.texts.specs.declared.sheet.SheetLine.{SheetLine}
 use Rattle.texts.specs.Faults.{Spot}
 use Rattle.texts.specs.Lines.{Row, row_of, next_row, bad_row, word_at, number_at, end_at, and_then}
-use Rattle.texts.specs.Places.{Place, line_at, after_line, size_of, too_long, judged_line, is_none}
+use Rattle.texts.specs.Places.{Place, line_at, after_line, size_of, too_long, judged_line, all_read}
 
 -- a number from low to high, and nothing after it
 abbrev pub last_number : ℕ → ℕ → Row → Result ℕ Bad
@@ -52,4 +52,4 @@ after_kind p = cond (too_long p) p (after_line p)
 
 -- what the next line says, none where nothing is left
 abbrev pub sheet_line_at : {T : Type 0} → (Row → Result T Bad) → Place → Result (Option (SheetLine T)) Spot
-sheet_line_at reads p = cond (is_none p.rest) (Ok None) (and_then (line_at p) (λ l. and_then (judged_line l (sheet_line reads (row_of l.bytes))) (λ s. Ok (Some s))))
+sheet_line_at reads p = cond (all_read p.rest) (Ok None) (and_then (line_at p) (λ l. and_then (judged_line l (sheet_line reads (row_of l.bytes))) (λ s. Ok (Some s))))

@@ -1,6 +1,6 @@
 // One access, made: what it sees and what it leaves.
-ghost use Rattle.std.specs.Prelude.{◌≡◌, ◌^◌, ◌<◌, ◌==◌, slice_index_or};
-ghost use Rattle.machine.specs.Memory.{seen_by, left_by, entry_holds, is_none, with_entry};
+ghost use Rattle.std.specs.Prelude.{◌≡◌, ◌^◌, ◌<◌, ◌==◌, is_none, slice_index_or};
+ghost use Rattle.machine.specs.Memory.{seen_by, left_by, entry_holds, with_entry};
 ghost use Rattle.machine.specs.Queues.{memory_of, Fitting};
 ghost use Rattle.machine.specs.States.{blank_entry};
 ghost use Rattle.machine.specs.declared.access.Access.{Access};

@@ -1,6 +1,6 @@
 // How a worker advances in help_enq and help_deq, and in all.
 ghost use Rattle.std.specs.Prelude.{◌≡◌, ◌^◌, ◌<◌, if◌then◌else◌};
-ghost use Rattle.machine.specs.Advances.{next_worker, help_enq, help_deq, phase_seen};
+ghost use Rattle.machine.specs.Advances.{next_worker, to_help_enq, to_help_deq, phase_seen};
 ghost use Rattle.machine.specs.HelpAdvances.{help_enq_advance, help_deq_advance, empty_advance, take_advance, advance_of};
 ghost use Rattle.machine.specs.Registers.{goto};
 ghost use Rattle.machine.specs.declared.access.Outcome.{Outcome};
@@ -29,14 +29,14 @@ impl Worker {
 
     // On to a stage, or else to the beginning of help_enq.
     fn on_or_enq(&mut self, on: bool, stage: HelpEnqStage)
-        ensures { self.new ≡ (if on then goto self.old (Stage.HelpEnq stage) else help_enq self.old) }
+        ensures { self.new ≡ (if on then goto self.old (Stage.HelpEnq stage) else to_help_enq self.old) }
     {
         self.stage = Stage::HelpEnq(if on { stage } else { HelpEnqStage::C1 });
     }
 
     // On to a stage, or else to the beginning of help_deq.
     fn on_or_deq(&mut self, on: bool, stage: Stage)
-        ensures { self.new ≡ (if on then goto self.old stage else help_deq self.old) }
+        ensures { self.new ≡ (if on then goto self.old stage else to_help_deq self.old) }
     {
         self.stage = if on {
             stage

@@ -1,6 +1,6 @@
 ghost use Rattle.std.specs.Prelude.{◌≡◌};
 ghost use Rattle.pickers.specs.Turns.{following, steps_to};
-ghost use Rattle.std.proofs.Common.{rules, arith};
+ghost use Rattle.std.proofs.Common.{rules};
 
 use crate::picker::{Picker, Told};
 use crate::round::Round;
@@ -24,7 +24,7 @@ impl Picker for Round {
 
     ghost asks = { λ p r q. (r ≡ p.next) × (q.crew ≡ p.crew) × (q.next ≡ following p.crew.n p.next) };
 
-    ghost lawful = { first_of (Prim.search rules, Prim.grind (arith, Self.row.coded.inj)) };
+    ghost lawful = { Prim.search rules };
 
     fn ask(&mut self) -> u8 {
         let named = self.next;

@@ -1,7 +1,7 @@
 ghost use Rattle.std.specs.Prelude.{◌≡◌};
 ghost use Rattle.texts.specs.Lines.{row, row_of};
 ghost use Rattle.texts.specs.Faults.{spot_of, placed};
-ghost use Rattle.texts.specs.Places.{place, opening, line_spot, lined, bad_line, whole_line, line_at, after_line, end_of_text, size_of, judged_line, is_none};
+ghost use Rattle.texts.specs.Places.{place, opening, line_spot, lined, bad_line, whole_line, line_at, after_line, end_of_text, size_of, judged_line, all_read};
 
 use crate::cut::length_before;
 use crate::fault::{Bad, Fault, TextName};
@@ -81,7 +81,7 @@ impl<'t> Reader<'t> {
 
     // Whether no line is left.
     pub(crate) fn is_read(&self) -> bool
-        ensures { result ≡ is_none (place self.now).rest }
+        ensures { result ≡ all_read (place self.now).rest }
     {
         self.at == self.text.len()
     }

@@ -1,6 +1,5 @@
 -- Where the node has no successor, it has this one after, and nothing else changes.
-use Rattle.std.proofs.Common.{◌≡◌, ◌<◌, length, sym, refl, ◌∙◌, rules}
-use Rattle.machine.specs.Memory.{is_none}
+use Rattle.std.proofs.Common.{◌≡◌, ◌<◌, length, sym, refl, ◌∙◌, rules, is_none}
 use Rattle.machine.specs.Queues.{memory_of}
 use Rattle.machine.proofs.ViewLaws.{successor-written}
 use Rattle.machine.proofs.queue.Queue.exchange_successor.Goals as goal

@@ -1,7 +1,7 @@
 -- Each turn places one more worker, and the row 0 1 .. n - 1 names every worker of the crew.
 use Rattle.std.proofs.Common.{◌≡◌, take, ap, ◌∙◌, arith, rules}
 use Rattle.pickers.specs.Frames.{all_below, all_named, up_to}
-use Rattle.pickers.specs.Rows.{up_to-more, up_to-all_below, up_to-all_named}
+use Rattle.pickers.proofs.RowLaws.{up_to-more, up_to-all_below, up_to-all_named}
 use Rattle.pickers.proofs.frame.Frame.first.Goals as goal
 
 pub loop-worker-preserved : goal.loop-worker-preserved

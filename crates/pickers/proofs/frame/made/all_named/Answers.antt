@@ -1,7 +1,7 @@
 -- A worker that is not named decides the answer; one that is named is counted in.
 use Rattle.std.proofs.Common.{sym, add-one, arith, rules}
 use Rattle.std.proofs.lemmas.Bool.{and_from}
-use Rattle.pickers.specs.Rows.{all_named-false}
+use Rattle.pickers.proofs.RowLaws.{all_named-false}
 use Rattle.pickers.proofs.frame.made.all_named.Goals as goal
 
 pub returns-then-not-is_named : goal.returns-then-not-is_named

@@ -2,7 +2,7 @@
 use Rattle.std.proofs.Common.{◌≡◌, length, take, drop, refl, ap, ◌∙◌, arith, rules}
 use Rattle.std.proofs.lemmas.List.{take_at, length-append, length-drop}
 use Rattle.pickers.specs.Frames.{all_below, all_named}
-use Rattle.pickers.specs.Rows.{judged-accepts}
+use Rattle.pickers.proofs.RowLaws.{judged-accepts}
 use Rattle.pickers.proofs.frame.made.filled.Goals as goal
 
 pub invariant_of-result : goal.invariant_of-result
