@@ -1,3 +1,3 @@
-// The own-step limit and the turn limit hold of the machine, and so does fairness: the first lemmas (proofs/); the
-// statements come with the calls that make them.
+// Towards the own-step limit, the turn limit and fairness of the machine: the first lemmas (proofs/). Nothing is stated
+// yet.
 #![tactic(auto)]

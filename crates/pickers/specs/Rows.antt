@@ -1,5 +1,5 @@
--- What a row that names every worker has: it names each, it is as long as the crew, and what it names is below n. The laws of
--- a frame rest on this.
+-- A row that names every worker below n names each and has at least n places; a row that passes `all_below` n has only
+-- numbers below n. The laws of a frame rest on this.
 use Rattle.std.specs.Prelude.{◌≡◌, ℕ, zero, suc, ◌+◌, ◌<◌, ◌≤◌, true, false, cond, ◌||◌, List, [], ◌∷◌, ◌++◌, length, ◌==◌, ◌≢◌, nat_lt, slice_index, refl}
 use Rattle.std.proofs.Common.{arith, ap, ◌∙◌, inl, inr}
 use Rattle.std.proofs.lemmas.Bool.{and_parts, cases_Bool, both_ways}
