@@ -11,13 +11,13 @@ pub enum Kind {
 
 impl Kind {
     // The word that the ledger has for it.
-    pub fn word(self) -> &'static [u8]
+    pub fn word(self) -> &'static str
         ensures { result.now ≡ word_of self }
     {
         match self {
-            Kind::Post => b"post",
-            Kind::Fetch => b"fetch",
-            Kind::None => b"none",
+            Kind::Post => "post",
+            Kind::Fetch => "fetch",
+            Kind::None => "none",
         }
     }
 }
@@ -31,12 +31,12 @@ pub enum ElementKind {
 
 impl ElementKind {
     // The word that sheet and ledger have for it.
-    pub fn word(self) -> &'static [u8]
+    pub fn word(self) -> &'static str
         ensures { result.now ≡ element_word self }
     {
         match self {
-            ElementKind::Bundle => b"bundle",
-            ElementKind::Landing => b"landing",
+            ElementKind::Bundle => "bundle",
+            ElementKind::Landing => "landing",
         }
     }
 }

@@ -4,17 +4,21 @@ ghost use Rattle.vocabulary.specs.Crews.{crew_of, sized, allowance};
 use crate::crew::Crew;
 use crate::refusal::Refusal;
 
-impl Crew {
-    // The crew of n workers, refused if n is not 1 to 16.
-    pub fn of(n: u64) -> Result<Crew, Refusal>
-        ensures { sized result ≡ crew_of n }
-    {
-        if n < 1 || n > 16 {
+// The crew of n workers, refused if n is not 1 to 16.
+impl TryFrom<u64> for Crew {
+    type Error = Refusal;
+
+    ghost try_from_gives = { λ n r. sized r ≡ crew_of n };
+
+    fn try_from(n: u64) -> Result<Crew, Refusal> {
+        if !(1..=16).contains(&n) {
             return Err(Refusal::CrewSize);
         }
         Ok(Crew { n: n as u8 })
     }
+}
 
+impl Crew {
     // How many workers it has.
     pub fn size(self) -> u8
         ensures { result ≡ self.n }
@@ -26,7 +30,7 @@ impl Crew {
     pub fn allowance(self) -> u32
         ensures { result ≡ allowance self.n }
     {
-        let n = self.size() as u32;
+        let n = u32::from(self.n);
         100 * n * (n + 1)
     }
 }

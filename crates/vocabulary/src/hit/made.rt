@@ -12,7 +12,7 @@ const BOUND: i32 = 2_000_000;
 fn within(c: i32) -> bool
     ensures { result ≡ in_bounds c }
 {
-    -BOUND <= c && c <= BOUND
+    (-BOUND..=BOUND).contains(&c)
 }
 
 impl Hit {
