@@ -12,12 +12,12 @@ pub enum TextName {
 
 impl TextName {
     // The word that the ledger has for it.
-    pub fn word(self) -> &'static [u8]
+    pub fn word(self) -> &'static str
         ensures { result.now ≡ name_word self }
     {
         match self {
-            TextName::Card => b"card",
-            TextName::Sheet => b"sheet",
+            TextName::Card => "card",
+            TextName::Sheet => "sheet",
         }
     }
 }

@@ -87,11 +87,11 @@ fn kind_word(fields: Fields<'_>) -> Result<ElementKind, Bad>
     let mut fields = fields;
     let bad = fields.next_bad();
     let word = fields.word()?;
-    if same(word, ElementKind::Bundle.word()) {
+    if same(word, ElementKind::Bundle.word().as_bytes()) {
         fields.end()?;
         return Ok(ElementKind::Bundle);
     }
-    if same(word, ElementKind::Landing.word()) {
+    if same(word, ElementKind::Landing.word().as_bytes()) {
         fields.end()?;
         return Ok(ElementKind::Landing);
     }

@@ -27,7 +27,7 @@ fn crew_line(fields: Fields<'_>) -> Result<Crew, Bad>
     let word = fields.word()?;
     if same(word, b"crew") {
         let n = last_number(fields, 0, 9_999_999_999)?;
-        return match Crew::of(n) {
+        return match Crew::try_from(n) {
             Ok(crew) => Ok(crew),
             Err(number) => Err(Bad { field: 2, number }),
         };
