@@ -1,17 +1,16 @@
 -- A row of workers: which workers it names, and whether a frame of a crew of n can have it.
-use Rattle.std.specs.Prelude.{ℕ, zero, suc, Bool, true, false, cond, not, ◌&&◌, ◌||◌, List, [], ◌∷◌, ◌++◌, length, Ok, Err, Result, ◌==◌, nat_lt}
+use Rattle.std.specs.Prelude.{ℕ, zero, suc, Bool, true, cond, not, ◌&&◌, ◌||◌, List, [], ◌∷◌, ◌++◌, length, Ok, Err, Result, ◌==◌, nat_lt}
+use Rattle.std.specs.List.{list_all, list_any}
 use Rattle.vocabulary.specs.declared.refusal.Refusal.{Refusal}
 use Rattle.vocabulary.specs.declared.refusal.Refusal.TheVariants.{FrameLength, ForeignWorker, WorkerLeftOut}
 
 -- whether the row names the worker b
 abbrev pub names : List ℕ → ℕ → Bool
-names [] b = false
-names (w ∷ ws) b = w == b || names ws b
+names ws b = list_any (λ w. w == b) ws
 
 -- whether every worker that the row names is below n
 abbrev pub all_below : ℕ → List ℕ → Bool
-all_below n [] = true
-all_below n (w ∷ ws) = nat_lt w n && all_below n ws
+all_below n ws = list_all (λ w. nat_lt w n) ws
 
 -- whether the row names every worker below n
 abbrev pub all_named : ℕ → List ℕ → Bool

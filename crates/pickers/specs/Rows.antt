@@ -1,6 +1,6 @@
 -- A row that names every worker below n names each and has at least n places; a row that passes `all_below` n has only
 -- numbers below n. The laws of a frame rest on this.
-use Rattle.std.specs.Prelude.{◌≡◌, ℕ, zero, suc, ◌+◌, ◌<◌, ◌≤◌, true, false, cond, ◌||◌, List, [], ◌∷◌, ◌++◌, length, ◌==◌, ◌≢◌, nat_lt, slice_index, refl}
+use Rattle.std.specs.Prelude.{◌≡◌, ℕ, zero, suc, ◌+◌, ◌<◌, ◌≤◌, true, false, cond, ◌||◌, List, [], ◌∷◌, length, ◌==◌, ◌≢◌, nat_lt, slice_index, refl}
 use Rattle.std.proofs.Common.{arith, ap, ◌∙◌, inl, inr}
 use Rattle.std.proofs.lemmas.Bool.{and_parts, cases_Bool, both_ways}
 use Rattle.std.proofs.lemmas.Bool.Decides.{nat_tests, Decides-below_and}
@@ -18,10 +18,6 @@ pub all_below-slice_index : (n : ℕ) (ws : List ℕ) (i : ℕ) → i < length w
 all_below-slice_index n [] i h e = omega arith
 all_below-slice_index n (w ∷ ws) zero h e = grind (arith, nat_tests)
 all_below-slice_index n (w ∷ ws) (suc i) h e = all_below-slice_index n ws i (omega arith) (and_parts (nat_lt w n) (all_below n ws) e).1
-
-pub names-append : (vs ws : List ℕ) (b : ℕ) → names (vs ++ ws) b ≡ (names vs b || names ws b)
-names-append [] ws b = refl
-names-append (v ∷ vs) ws b = let h = names-append vs ws b in grind (arith, nat_tests)
 
 -- the row without the worker b, which names one worker fewer and is shorter
 abbrev without : ℕ → List ℕ → List ℕ

@@ -1,19 +1,19 @@
 -- A row read round and round: every worker that it names is named within the row's length, and each step from one place to
 -- the next brings every worker but the one named there one step nearer.
-use Rattle.std.specs.Prelude.{◌≡◌, ℕ, ◌+◌, ◌<◌, ◌≤◌, true, false, List, [], ◌∷◌, ◌++◌, length, take, drop, ◌≢◌, nat_lt, slice_index, slice_index_or, refl}
+use Rattle.std.specs.Prelude.{◌≡◌, ℕ, ◌+◌, ◌<◌, ◌≤◌, true, false, List, [], ◌∷◌, ◌++◌, length, take, drop, ◌≢◌, nat_lt, slice_index, slice_index_or, refl, ◌==◌}
 use Rattle.std.proofs.Common.{arith, sym, ap, ◌∙◌, inl, inr, length-append, length-take, length-drop, take-append-drop}
 use Rattle.std.proofs.lemmas.List.{drop_more, take_more, append_assoc, append-nil, drop_all, take_all}
+use Rattle.std.proofs.lemmas.List.Folds.{list_any-append}
 use Rattle.std.proofs.lemmas.Bool.{ne_eqb, both_ways, cases_Bool, ltb-false}
 use Rattle.std.proofs.lemmas.Bool.Decides.{nat_tests}
 use Rattle.pickers.specs.Frames.{names}
 use Rattle.pickers.specs.Turns.{following}
 use Rattle.pickers.specs.Waits.{place_of, rotated, wait_from}
-use Rattle.pickers.specs.Rows.{names-append}
 
 names-rotated : (k : ℕ) (ws : List ℕ) (b : ℕ) → names (rotated k ws) b ≡ names ws b
 names-rotated k ws b =
-    let e = names-append (drop k ws) (take k ws) b in
-    let f = names-append (take k ws) (drop k ws) b in
+    let e = list_any-append (λ w. w == b) (drop k ws) (take k ws) in
+    let f = list_any-append (λ w. w == b) (take k ws) (drop k ws) in
     let g = ap (λ vs. names vs b) (take-append-drop k ws) in
     grind (arith, nat_tests)
 

@@ -1,10 +1,10 @@
 -- While a picker is asked for a worker b and names others, the asks so far and the due number of b together do not grow; so b is
 -- named within its due number.
-use Rattle.std.proofs.Common.{◌≡◌, ℕ, ◌+◌, ◌<◌, ◌≤◌, false, List, [], ◌∷◌, ◌++◌, length, sym, refl, ◌∙◌, subst, arith}
+use Rattle.std.proofs.Common.{◌≡◌, ℕ, ◌+◌, ◌<◌, ◌≤◌, false, List, [], ◌∷◌, ◌++◌, length, sym, refl, ◌∙◌, subst, arith, ◌==◌}
 use Rattle.std.proofs.lemmas.List.{length_push}
+use Rattle.std.proofs.lemmas.List.Folds.{list_any-append}
 use Rattle.std.proofs.lemmas.Bool.Decides.{nat_tests}
 use Rattle.pickers.specs.Frames.{names}
-use Rattle.pickers.specs.Rows.{names-append}
 use Rattle.pickers_test.specs.Asking.{Members, Step, Asked, Until}
 
 -- the picker p was asked until it was q, and named other workers than b; the coming ask has the number count
@@ -25,7 +25,7 @@ module _ {S : Type 0} (m : Members S) where
   waiting-more p b count q w next l h s ne =
       record {
         before = h.before ++ w ∷ [];
-        not_before = let e = names-append h.before (w ∷ []) b in grind (arith, nat_tests);
+        not_before = let e = list_any-append (λ v. v == b) h.before (w ∷ []) in grind (arith, nat_tests);
         counted = let e = length_push h.before w in omega arith;
         asked = asked-more p h.before q w next h.asked s;
         same_crew = s.naming.same_crew ∙ h.same_crew;

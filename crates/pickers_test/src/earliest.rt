@@ -53,7 +53,7 @@ impl Picker for EarliestDue {
 
     ghost due = { λ p b. due_of p.zero p.one p.two b };
 
-    ghost lawful = { first_of (Prim.search rules, Prim.grind (arith, Self.row.coded.inj)) };
+    ghost lawful = { Prim.search rules };
 
     fn ask(&mut self) -> u8 {
         let EarliestDue { zero, one, two } = *self;
@@ -84,7 +84,7 @@ impl Picker for EarliestDue {
     fn tell(&self) -> Told {
         Told {
             crew: 3,
-            window: WINDOW as u16,
+            window: u16::from(WINDOW),
         }
     }
 }

@@ -9,7 +9,7 @@ use vocabulary::refusal::Refusal;
 
 #[test]
 fn round_names_in_turn(rt: HostRuntime) -> Result<(), Fail> {
-    let mut round = Round::of(Crew::of(3)?);
+    let mut round = Round::of(Crew::try_from(3u64)?);
     assert_eq!(rt; round.tell().crew, 3);
     assert_eq!(rt; round.tell().window, 3);
     for worker in [0, 1, 2, 0, 1] {
@@ -20,7 +20,7 @@ fn round_names_in_turn(rt: HostRuntime) -> Result<(), Fail> {
 
 #[test]
 fn frame_names_its_row(rt: HostRuntime) -> Result<(), Fail> {
-    let mut frame = Frame::first(Crew::of(3)?);
+    let mut frame = Frame::first(Crew::try_from(3u64)?);
     for worker in [0, 1, 2, 0] {
         assert_eq!(rt; frame.ask(), worker);
     }
@@ -35,7 +35,7 @@ fn frame_names_its_row(rt: HostRuntime) -> Result<(), Fail> {
 
 #[test]
 fn refused_row_changes_nothing(rt: HostRuntime) -> Result<(), Fail> {
-    let mut frame = Frame::first(Crew::of(3)?);
+    let mut frame = Frame::first(Crew::try_from(3u64)?);
     assert_eq!(rt; frame.fill(&[0, 1, 2, 1]), Ok(()));
     assert_eq!(rt; frame.ask(), 0);
     assert_eq!(rt; frame.ask(), 1);
@@ -60,7 +60,7 @@ fn earliest_due_is_named(rt: HostRuntime) {
 
 #[test]
 fn asks_until_the_worker_is_named(rt: HostRuntime) -> Result<(), Fail> {
-    let mut frame = Frame::first(Crew::of(3)?);
+    let mut frame = Frame::first(Crew::try_from(3u64)?);
     assert_eq!(rt; asks_until(&mut frame, 1), Some(2));
     assert_eq!(rt; asks_until(&mut frame, 1), Some(3));
     assert_eq!(rt; asks_until(&mut frame, 3), None);

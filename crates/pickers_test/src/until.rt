@@ -8,12 +8,14 @@ use pickers::picker::Picker;
 pub fn asks_until<P: Picker>(picker: &mut P, worker: u8) -> Option<u16>
     ensures { MatchOption result ((P.Picker.crew picker.old ≤ worker) × (picker.new ≡ picker.old)) (λ count. Until (members P.Picker.crew P.Picker.window P.Picker.due) picker.old worker count picker.new) }
 {
-    if worker >= picker.tell().crew {
+    let told = picker.tell();
+    if worker >= told.crew {
         return None;
     }
-    let mut count = 1;
-    while picker.ask() != worker {
-        count += 1;
+    for count in 1..=told.window {
+        if picker.ask() == worker {
+            return Some(count);
+        }
     }
-    Some(count)
+    unreachable!()
 }

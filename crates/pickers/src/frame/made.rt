@@ -6,40 +6,18 @@ use crate::frame::{Frame, LONGEST};
 use vocabulary::crew::Crew;
 use vocabulary::refusal::Refusal;
 
-// Whether the row names the worker.
-fn is_named(row: &[u8], worker: u8) -> bool
-    ensures { result ≡ names row.now worker }
-{
-    for w in row {
-        if *w == worker {
-            return true;
-        }
-    }
-    false
-}
-
 // Whether every worker that the row names is below n.
 fn all_below(n: u8, row: &[u8]) -> bool
     ensures { result ≡ all_below n row.now }
 {
-    for w in row {
-        if *w >= n {
-            return false;
-        }
-    }
-    true
+    row.iter().all(|w| *w < n)
 }
 
 // Whether the row names every worker below n.
 fn all_named(n: u8, row: &[u8]) -> bool
     ensures { result ≡ all_named n row.now }
 {
-    for worker in 0..n {
-        if !is_named(row, worker) {
-            return false;
-        }
-    }
-    true
+    (0..n).all(|worker| row.contains(&worker))
 }
 
 // Whether a frame of a crew of n can have the row, and if not, why.
@@ -58,28 +36,6 @@ fn judge(n: u8, row: &[u8]) -> Result<(), Refusal>
     Ok(())
 }
 
-// The places with the row in the first of them.
-fn placed(mut places: [u8; LONGEST], row: &[u8]) -> [u8; LONGEST]
-    requires { length row.now ≤ 64 }
-    ensures { result ≡ row.now ++ drop (length row.now) places }
-{
-    places[0..row.len()].copy_from_slice(row);
-    places
-}
-
-// The frame with the row, which is read from its first place on.
-fn filled(frame: Frame, row: &[u8]) -> Frame
-    requires { judged frame.crew.n row.now ≡ Ok tt }
-    ensures { Filled frame row.now result }
-{
-    Frame {
-        crew: frame.crew,
-        len: row.len() as u8,
-        at: 0,
-        places: placed(frame.places, row),
-    }
-}
-
 impl Frame {
     // The frame that names each worker once, in order.
     pub fn first(crew: Crew) -> Frame
@@ -91,7 +47,7 @@ impl Frame {
         let n = crew.size();
         let mut places = [0; LONGEST];
         for worker in 0..n {
-            places[worker as usize] = worker;
+            places[usize::from(worker)] = worker;
         }
         Frame {
             crew,
@@ -107,7 +63,11 @@ impl Frame {
         ensures frame { MatchResult result (λ _. Filled self.old workers.now self.new) (λ _. self.new ≡ self.old) }
     {
         judge(self.crew.size(), workers)?;
-        *self = filled(*self, workers);
+        let mut places = self.places;
+        places[..workers.len()].copy_from_slice(workers);
+        self.places = places;
+        self.len = workers.len() as u8;
+        self.at = 0;
         Ok(())
     }
 }

@@ -3,6 +3,7 @@ ghost use Rattle.pickers.specs.Turns.{following};
 ghost use Rattle.pickers.specs.Waits.{wait_from};
 ghost use Rattle.pickers.specs.FrameLaw.{frame-lawful};
 
+use crate::following::following;
 use crate::frame::Frame;
 use crate::picker::{Picker, Told};
 
@@ -18,16 +19,15 @@ impl Picker for Frame {
     ghost lawful = { frame-lawful };
 
     fn ask(&mut self) -> u8 {
-        let named = self.places[self.at as usize];
-        let up = self.at + 1;
-        self.at = if up < self.len { up } else { 0 };
+        let named = self.places[usize::from(self.at)];
+        self.at = following(self.len, self.at);
         named
     }
 
     fn tell(&self) -> Told {
         Told {
             crew: self.crew.size(),
-            window: self.len as u16,
+            window: u16::from(self.len),
         }
     }
 }

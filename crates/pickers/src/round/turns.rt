@@ -2,6 +2,7 @@ ghost use Rattle.std.specs.Prelude.{◌≡◌};
 ghost use Rattle.pickers.specs.Turns.{following, steps_to};
 ghost use Rattle.std.proofs.Common.{rules};
 
+use crate::following::following;
 use crate::picker::{Picker, Told};
 use crate::round::Round;
 use vocabulary::crew::Crew;
@@ -28,8 +29,7 @@ impl Picker for Round {
 
     fn ask(&mut self) -> u8 {
         let named = self.next;
-        let up = named + 1;
-        self.next = if up < self.crew.size() { up } else { 0 };
+        self.next = following(self.crew.size(), named);
         named
     }
 
@@ -37,7 +37,7 @@ impl Picker for Round {
         let n = self.crew.size();
         Told {
             crew: n,
-            window: n as u16,
+            window: u16::from(n),
         }
     }
 }

@@ -7,11 +7,11 @@ pub loop-count-preserved : goal.loop-count-preserved
 loop-count-preserved g c =
     let asked = c.ask.ensures in
     let member : c.args.worker < g.P.Picker.crew c.args.picker.now = omega arith in
-    waiting-more _ _ _ _ _ _ _ member c.loop-count.invariant (record { naming = asked.naming; fairness = asked.fairness }) c.loop-count-test.true
+    waiting-more _ _ _ _ _ _ _ member c.loop-count.invariant (record { naming = asked.naming; fairness = asked.fairness }) c.if-ask-worker.false
 
-pub returns : goal.returns
-returns g c =
+pub returns-then-ask-worker : goal.returns-then-ask-worker
+returns-then-ask-worker g c =
     let asked = c.ask.ensures in
     let member : c.args.worker < g.P.Picker.crew c.loop-count.picker = omega arith in
     let due = (g.met.P.Picker.lawful c.loop-count.picker).due_min c.args.worker member in
-    waiting-all _ _ _ _ _ _ _ due c.loop-count.invariant (record { naming = asked.naming; fairness = asked.fairness }) c.loop-count-test.false
+    waiting-all _ _ _ _ _ _ _ due c.loop-count.invariant (record { naming = asked.naming; fairness = asked.fairness }) c.if-ask-worker.true

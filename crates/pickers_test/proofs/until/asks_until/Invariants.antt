@@ -5,6 +5,3 @@ use Rattle.pickers_test.proofs.until.asks_until.Given as goal
 
 abbrev pub invariant-loop-count : goal.invariant-loop-count
 invariant-loop-count g l = Waiting (members g.P.Picker.crew g.P.Picker.window g.P.Picker.due) l.initial.picker l.worker l.count l.picker
-
-abbrev pub decreases-loop-count : goal.decreases-loop-count
-decreases-loop-count g l = g.P.Picker.due l.picker l.worker

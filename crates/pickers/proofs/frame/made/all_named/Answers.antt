@@ -1,13 +1,14 @@
--- A worker that is not named decides the answer; one that is named is counted in.
-use Rattle.std.proofs.Common.{sym, add-one, arith, rules}
-use Rattle.std.proofs.lemmas.Bool.{and_from}
-use Rattle.pickers.proofs.RowLaws.{all_named-false}
+-- The workers below n are gone through once.
+use Rattle.std.proofs.Common.{rules, refl, ◌∙◌, arith}
+use Rattle.std.proofs.lemmas.Iterator.{YieldsList-from_range}
+use Rattle.std.proofs.lemmas.Iterator.Search.{all_from_yields_List}
+use borrow.Author.Tests.{tests}
+use Rattle.pickers.specs.Frames.{names}
+use Rattle.pickers.proofs.RowLaws.{all_named-list_all}
 use Rattle.pickers.proofs.frame.made.all_named.Goals as goal
 
-pub returns-then-not-is_named : goal.returns-then-not-is_named
-returns-then-not-is_named c =
-    let e = all_named-false c.args.n c.args.row.now c.loop-worker.worker (omega arith) in
-    search (rules, sym, e)
-
-pub loop-worker-preserved : goal.loop-worker-preserved
-loop-worker-preserved c = rw add-one (and_from _ _ (sym c.if-not-is_named.ensures) c.loop-worker.invariant)
+pub returns : goal.returns
+returns c =
+    let n = c.args.n in
+    let ws = c.args.row.now in
+    all_from_yields_List (names ws) _ _ _ c.all.ensures.ran (YieldsList-from_range 0 n n refl (omega arith)) (λ x b q k. search (rules, tests)) ∙ all_named-list_all n ws

@@ -7,7 +7,7 @@ use Rattle.pickers.proofs.frame.turns.FramePicker.ask.Goals as goal
 pub returns : goal.returns
 returns c =
     let p = c.args.self.now in
-    let next : c.if-up-self.self ≡ following p.len p.at = search rules in
+    let next : c.following-self.result ≡ following p.len p.at = search rules in
     let member = frame-member p in
-    let fair = frame-fair p c.if-up-self.self next in
+    let fair = frame-fair p c.following-self.result next in
     search rules
