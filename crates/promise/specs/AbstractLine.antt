@@ -34,27 +34,27 @@ empty_line = record { queue = []; steps = 0; order = λ w. None; saw = λ w. Non
 
 -- a worker without an order places one
 abbrev pub placing : {T : Type 0} → Line T → ℕ → Asked T → Line T
-placing s w a = record { queue = s.queue; steps = s.steps; order = put s.order w (Some (record { asked = a; placing = s.steps; given = None })); saw = put s.saw w None }
+placing s w a = record s { order = put s.order w (Some (record { asked = a; placing = s.steps; given = None })); saw = put s.saw w None }
 
 -- a step is counted
 abbrev pub counting : {T : Type 0} → Line T → Line T
-counting s = record { queue = s.queue; steps = s.steps + 1; order = s.order; saw = s.saw }
+counting s = record s { steps = s.steps + 1 }
 
 -- the worker's step saw the queue empty
 abbrev pub marking : {T : Type 0} → Line T → ℕ → Line T
-marking s w = record { queue = s.queue; steps = s.steps; order = s.order; saw = put s.saw w (Some s.steps) }
+marking s w = record s { saw = put s.saw w (Some s.steps) }
 
 -- k's order gets a point, and the queue becomes q
 abbrev pub giving : {T : Type 0} → Line T → ℕ → Open T → Given T → List T → Line T
-giving s k o g q = record { queue = q; steps = s.steps; order = put s.order k (Some (record { asked = o.asked; placing = o.placing; given = Some g })); saw = s.saw }
+giving s k o g q = record s { queue = q; order = put s.order k (Some (record o { given = Some g })) }
 
 -- the worker's mark becomes a point
 abbrev pub unmarking : {T : Type 0} → Line T → ℕ → Line T
-unmarking s w = record { queue = s.queue; steps = s.steps; order = s.order; saw = put s.saw w None }
+unmarking s w = record s { saw = put s.saw w None }
 
 -- the worker's order ends
 abbrev pub ending : {T : Type 0} → Line T → ℕ → Line T
-ending s w = record { queue = s.queue; steps = s.steps; order = put s.order w None; saw = put s.saw w None }
+ending s w = record s { order = put s.order w None; saw = put s.saw w None }
 
 -- what a counted step of the worker w may do to the line, and the point that it tells. Numbers are the step's own, but
 -- for a fetch that finds nothing: it gets the number of an earlier step of w that saw the queue empty, or of this one

@@ -27,16 +27,16 @@ blank = record { count = 0; steps = 0; worker = λ i. 0; asked = λ i. Asked.fet
 
 -- one order more
 abbrev pub after_placing : {T : Type 0} → Book T → ℕ → Asked T → Book T
-after_placing b w a = record { count = b.count + 1; steps = b.steps; worker = put b.worker b.count w; asked = put b.asked b.count a; placing = put b.placing b.count b.steps; points = put b.points b.count []; answer = put b.answer b.count None; ended = b.ended; current = put b.current w (Some b.count); stepper = b.stepper; pointed = b.pointed }
+after_placing b w a = record b { count = b.count + 1; worker = put b.worker b.count w; asked = put b.asked b.count a; placing = put b.placing b.count b.steps; points = put b.points b.count []; answer = put b.answer b.count None; current = put b.current w (Some b.count) }
 
 -- one counted step more, of the worker w
 abbrev pub after_step : {T : Type 0} → Book T → ℕ → Book T
-after_step b w = record { count = b.count; steps = b.steps + 1; worker = b.worker; asked = b.asked; placing = b.placing; points = b.points; answer = b.answer; ended = b.ended; current = b.current; stepper = put b.stepper (b.steps + 1) (Some w); pointed = b.pointed }
+after_step b w = record b { steps = b.steps + 1; stepper = put b.stepper (b.steps + 1) (Some w) }
 
 -- a point goes to its worker's unanswered order
 abbrev pub point_to : {T : Type 0} → Book T → Point → Option ℕ → Book T
 point_to b p None = b
-point_to b p (Some i) = record { count = b.count; steps = b.steps; worker = b.worker; asked = b.asked; placing = b.placing; points = put b.points i (b.points i ++ p ∷ []); answer = b.answer; ended = b.ended; current = b.current; stepper = b.stepper; pointed = put b.pointed p.number (Some i) }
+point_to b p (Some i) = record b { points = put b.points i (b.points i ++ p ∷ []); pointed = put b.pointed p.number (Some i) }
 
 abbrev pub after_point : {T : Type 0} → Book T → Option Point → Book T
 after_point b None = b
@@ -45,7 +45,7 @@ after_point b (Some p) = point_to b p (b.current p.worker)
 -- an answer ends its worker's unanswered order
 abbrev pub answer_to : {T : Type 0} → Book T → Answer T → Option ℕ → Book T
 answer_to b a None = b
-answer_to b a (Some i) = record { count = b.count; steps = b.steps; worker = b.worker; asked = b.asked; placing = b.placing; points = b.points; answer = put b.answer i (Some a); ended = put b.ended i b.steps; current = put b.current a.worker None; stepper = b.stepper; pointed = b.pointed }
+answer_to b a (Some i) = record b { answer = put b.answer i (Some a); ended = put b.ended i b.steps; current = put b.current a.worker None }
 
 abbrev pub after_answer : {T : Type 0} → Book T → Option (Answer T) → Book T
 after_answer b None = b

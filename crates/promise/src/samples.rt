@@ -1,9 +1,7 @@
 ghost use Rattle.promise.specs.Samples.{StatementIsSane};
 
 // What is promised tells lawful samples from wrong ones: lawful transcripts keep it, and each wrong one breaks the part that
-// is wrong and no other. It is a theorem: what it ensures is all, and its result says nothing.
-pub fn statement_is_sane() -> u8
+// is wrong and no other. It is a theorem: what it ensures is all.
+pub fn statement_is_sane()
     ensures { StatementIsSane }
-{
-    0
-}
+{}
