@@ -11,9 +11,10 @@ impl<'o> Output<'o> {
         ensures { Puts text.now self.old self.new result }
     {
         let start = self.len;
+        let room = self.bytes.len();
         let end = start
             .checked_add(text.len())
-            .filter(|end| *end <= self.bytes.len())
+            .filter(|end| *end <= room)
             .ok_or(Refusal::OutputFull)?;
         self.bytes[start..end].copy_from_slice(text.as_bytes());
         self.len = end;
