@@ -1,5 +1,4 @@
 pub mod CutLaws
 pub mod ElementLaws
 pub mod NumberLaws
-pub mod OutputLaws
 pub mod SheetLaws
