@@ -1,14 +1,10 @@
 -- The fields of an element: they are few bytes, with no tab and no byte 10, and are read back as the element.
-use Rattle.std.proofs.Common.{◌≡◌, ℕ, ◌^◌, ◌<◌, ◌≤◌, length, ℤ, Ok, sym, refl, ap, ◌∙◌, arith, length-append, w32, SFits}
-use Rattle.std.proofs.lemmas.Fmt.{length-decimal-le, length_signed_le}
-use Rattle.std.proofs.lemmas.List.{length-take-le}
+use Rattle.std.proofs.Common.{◌≡◌, ℕ, ◌<◌, Ok, refl, arith}
 use Rattle.std.proofs.lemmas.Bool.Decides.{nat_tests}
 use Rattle.vocabulary.specs.declared.bundle.Bundle.{Bundle}
 use Rattle.vocabulary.specs.declared.landing.Landing.{Landing}
 use Rattle.texts.specs.Elements.{bundle_of, landing_of}
-use Rattle.ledger.specs.declared.line.Line.{Line}
 use Rattle.ledger.specs.Elements.{bundle_fields, landing_fields}
-use Rattle.ledger.specs.Lines.{text_of, parted}
 use Rattle.ledger.specs.Reading.{BundleInRange, LandingInRange}
 use Rattle.ledger.proofs.CutLaws.{Lack}
 use Rattle.ledger.proofs.NumberLaws.{decimal-lacks, signed-lacks, within-back, coordinate-back}
