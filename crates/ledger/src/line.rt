@@ -39,7 +39,7 @@ impl Line {
         ensures text { text_of self.new ≡ text_of self.old ++ 9 ∷ text.now }
         ensures long { length (text_of self.new) ≡ length (text_of self.old) + 1 + length text.now }
     {
-        self.text.push_str("\t");
+        self.text.push('\t');
         self.text.push_str(text);
     }
 
@@ -57,6 +57,6 @@ impl Line {
         requires { length (text_of self.old) + 1 ≤ 160 }
         ensures { text_of self.new ≡ text_of self.old ++ 10 ∷ [] }
     {
-        self.text.push_str("\n");
+        self.text.push('\n');
     }
 }
