@@ -1,9 +1,9 @@
 ghost use Rattle.std.specs.Prelude.{◌≡◌};
+ghost use Rattle.ledger.specs.LedgerLines.{run_bytes};
 ghost use Rattle.ledger.specs.Lines.{text_of};
 ghost use Rattle.texts.specs.declared.fault.TextName.{TextName};
 ghost use Rattle.texts.specs.Cards.{card_of, says};
 ghost use Rattle.texts.specs.Places.{opening};
-ghost use Rattle.ledger.specs.LedgerLines.{run_bytes};
 ghost use Rattle.dispatcher.specs.Heads.{head_bytes, run_of};
 
 use ledger::line::Line;
