@@ -1,4 +1,5 @@
 ghost use Rattle.std.specs.Prelude.{◌≡◌};
+ghost use Rattle.ledger.specs.LedgerLines.{run_bytes};
 ghost use Rattle.ledger.specs.Lines.{text_of};
 ghost use Rattle.texts.specs.declared.fault.TextName.{TextName};
 ghost use Rattle.texts.specs.Cards.{card_of, says};
@@ -18,25 +19,27 @@ use vocabulary::kind::ElementKind;
 fn lone_crew() -> Crew
     ensures { result.n ≡ 1 }
 {
-    match Crew::of(1) {
+    match Crew::try_from(1u64) {
         Ok(crew) => crew,
-        Err(_) => unreachable(),
+        Err(_) => unreachable!(),
     }
 }
 
-// The ledger's `run` line of a card and a kind of element. Crew and window are what the picker tells.
+// The ledger's `run` line of a picker and a kind of element. Crew and window are what the picker tells.
+fn told_line<P: Picker>(picker: &P, kind: ElementKind, named: PickerKind) -> Line
+    ensures { text_of result ≡ run_bytes (P.crew picker.now) kind named (P.window picker.now) }
+{
+    let told = picker.tell();
+    Line::run(told.crew, kind, named, told.window)
+}
+
+// The ledger's `run` line of a card and a kind of element.
 fn run_line(card: &Card, kind: ElementKind) -> Line
     ensures { text_of result ≡ run_of (says card.now) kind }
 {
     match card {
-        Card::Round(picker) => {
-            let told = picker.tell();
-            Line::run(told.crew, kind, PickerKind::Round, told.window)
-        }
-        Card::Frame(picker) => {
-            let told = picker.tell();
-            Line::run(told.crew, kind, PickerKind::Frame, told.window)
-        }
+        Card::Round(picker) => told_line(picker, kind, PickerKind::Round),
+        Card::Frame(picker) => told_line(picker, kind, PickerKind::Frame),
     }
 }
 

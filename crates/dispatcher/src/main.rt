@@ -11,21 +11,13 @@ use std::{fs, io};
 
 fn main(rt: HostRuntime) -> io::Result<()> {
     // an unreadable file counts as empty
-    let card = match fs::read(&rt, "card.txt") {
-        Ok(bytes) => bytes,
-        Err(_) => Vec::new(rt.alloc()),
-    };
-    let sheet = match fs::read(&rt, "sheet.txt") {
-        Ok(bytes) => bytes,
-        Err(_) => Vec::new(rt.alloc()),
-    };
+    let card = fs::read(&rt, "card.txt").unwrap_or_else(|_| Vec::new(rt.alloc()));
+    let sheet = fs::read(&rt, "sheet.txt").unwrap_or_else(|_| Vec::new(rt.alloc()));
     let mut out = [0u8; 65_536];
     let mut output = Output::over(&mut out);
     let _ = output.put(&head_line(card.as_slice(), sheet.as_slice()));
     let n = output.len();
     let mut stdout = rt.stdout();
-    if n <= out.len() {
-        stdout.write_all(&out[0..n])?;
-    }
+    stdout.write_all(&out[..n])?;
     Ok(())
 }

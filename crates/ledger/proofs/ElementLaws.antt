@@ -1,33 +1,13 @@
 -- The fields of an element: they are few bytes, with no tab and no byte 10, and are read back as the element.
-use Rattle.std.proofs.Common.{◌≡◌, ℕ, ◌^◌, ◌<◌, ◌≤◌, length, ℤ, Ok, sym, refl, ap, ◌∙◌, arith, length-append, w32, SFits}
-use Rattle.std.proofs.lemmas.Fmt.{length-decimal-le, length_signed_le}
-use Rattle.std.proofs.lemmas.List.{length-take-le}
+use Rattle.std.proofs.Common.{◌≡◌, ℕ, ◌<◌, Ok, refl, arith}
 use Rattle.std.proofs.lemmas.Bool.Decides.{nat_tests}
 use Rattle.vocabulary.specs.declared.bundle.Bundle.{Bundle}
 use Rattle.vocabulary.specs.declared.landing.Landing.{Landing}
 use Rattle.texts.specs.Elements.{bundle_of, landing_of}
-use Rattle.ledger.specs.declared.line.Line.{Line}
 use Rattle.ledger.specs.Elements.{bundle_fields, landing_fields}
-use Rattle.ledger.specs.Lines.{text_of, parted}
 use Rattle.ledger.specs.Reading.{BundleInRange, LandingInRange}
 use Rattle.ledger.proofs.CutLaws.{Lack}
 use Rattle.ledger.proofs.NumberLaws.{decimal-lacks, signed-lacks, within-back, coordinate-back}
-
-line-length : (l : Line) → l.len ≡ length (text_of l)
-line-length l = sym (length-take-le l.len l.bytes (omega arith))
-
-pub bundle-short : (l : Line) (b : Bundle) → text_of l ≡ parted (bundle_fields b) → b.field < 2 ^ 8 → b.wavelength < 2 ^ 8 → b.rays < 2 ^ 16 → l.len ≤ 32
-bundle-short l b e f w r =
-    let a = length-decimal-le 3 b.field (omega arith) (omega arith) (omega arith) in
-    let d = length-decimal-le 3 b.wavelength (omega arith) (omega arith) (omega arith) in
-    let g = length-decimal-le 5 b.rays (omega arith) (omega arith) (omega arith) in
-    omega (arith, simp length-append at (line-length l ∙ ap length e))
-
-pub hit-short : (l : Line) (x y : ℤ) → text_of l ≡ parted (landing_fields (Landing.Hit x y)) → SFits w32 x → SFits w32 y → l.len ≤ 32
-hit-short l x y e f g =
-    let a = length_signed_le 10 x (omega arith) (omega arith) in
-    let b = length_signed_le 10 y (omega arith) (omega arith) in
-    omega (arith, simp length-append at (line-length l ∙ ap length e))
 
 pub bundle-lacks : (s : ℕ) → s < 11 → (b : Bundle) → BundleInRange b → Lack s (bundle_fields b)
 bundle-lacks s low b ok = (decimal-lacks s b.field (omega arith) (omega arith), (decimal-lacks s b.wavelength (omega arith) (omega arith), (decimal-lacks s b.rays (omega arith) (omega arith), tt)))

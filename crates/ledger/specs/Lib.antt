@@ -1,7 +1,6 @@
 pub mod Elements
 pub mod LedgerLines
 pub mod Lines
-pub mod Numbers
 pub mod Outputs
 pub mod Reading
 pub mod SheetLines

@@ -3,8 +3,8 @@ ghost use Rattle.ledger.specs.Elements.{bundle_fields, landing_fields};
 ghost use Rattle.ledger.specs.Lines.{text_of, parted};
 ghost use Rattle.std.proofs.Common.{rules};
 
-use crate::digits::Digits;
 use crate::line::Line;
+use itoa::Buffer;
 use vocabulary::bundle::Bundle;
 use vocabulary::landing::Landing;
 
@@ -16,7 +16,7 @@ pub trait Written {
     // Its fields, parted by tabs, of at most 32 bytes.
     fn fields(&self) -> Line
         ensures text { text_of result ≡ parted (fields_of self.now) }
-        ensures short { result.len ≤ 32 };
+        ensures short { length (text_of result) ≤ 32 };
 
     // it has at least one
     ghost some: { (x : Self) → 1 ≤ length (fields_of x) };
@@ -28,9 +28,9 @@ impl Written for Bundle {
     ghost some = { Prim.search rules };
 
     fn fields(&self) -> Line {
-        let mut line = Line::of(Digits::of(self.field as u64).bytes());
-        line.number(self.wavelength as u64);
-        line.number(self.rays as u64);
+        let mut line = Line::of(Buffer::new().format(self.field));
+        line.number(self.wavelength);
+        line.number(self.rays);
         line
     }
 }
@@ -43,14 +43,14 @@ impl Written for Landing {
     fn fields(&self) -> Line {
         match *self {
             Landing::Lost { surface } => {
-                let mut line = Line::of(b"lost");
-                line.number(surface as u64);
+                let mut line = Line::of("lost");
+                line.number(surface);
                 line
             }
             Landing::Hit { x, y } => {
-                let mut line = Line::of(b"hit");
-                line.coordinate(x);
-                line.coordinate(y);
+                let mut line = Line::of("hit");
+                line.number(x);
+                line.number(y);
                 line
             }
         }

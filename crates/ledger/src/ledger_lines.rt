@@ -13,11 +13,11 @@ impl Line {
     pub fn run(n: u8, kind: ElementKind, picker: PickerKind, window: u16) -> Line
         ensures { text_of result ≡ run_bytes n kind picker window }
     {
-        let mut line = Line::of(b"run");
-        line.number(n as u64);
+        let mut line = Line::of("run");
+        line.number(n);
         line.field(kind.word());
         line.field(picker.word());
-        line.number(window as u64);
+        line.number(window);
         line.end();
         line
     }
@@ -26,11 +26,11 @@ impl Line {
     pub fn fault(fault: Fault<'_>) -> Line
         ensures { text_of result ≡ fault_bytes fault.entry.text fault.entry.line fault.entry.field fault.entry.number }
     {
-        let mut line = Line::of(b"fault");
+        let mut line = Line::of("fault");
         line.field(fault.text.word());
-        line.number(fault.line as u64);
-        line.number(fault.field as u64);
-        line.number(fault.number.number() as u64);
+        line.number(fault.line);
+        line.number(fault.field);
+        line.number(fault.number.number());
         line.end();
         line
     }

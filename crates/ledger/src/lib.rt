@@ -2,7 +2,6 @@
 // are read back as they were written.
 #![tactic(auto)]
 
-mod digits;
 pub mod element;
 mod ledger_lines;
 pub mod line;

@@ -1,8 +1,8 @@
 ghost use Rattle.std.specs.Prelude.{◌≡◌, decimal};
 ghost use Rattle.ledger.specs.Outputs.{put_at, count_of};
 
-use crate::digits::Digits;
 use crate::output::Output;
+use itoa::Buffer;
 use vocabulary::refusal::Refusal;
 
 // Writes a number in its shortest form at the start of an output, and says how many bytes it has. It is refused, and
@@ -12,6 +12,6 @@ pub fn write_number(out: &mut [u8], n: u64) -> Result<usize, Refusal>
     ensures held { out.new ≡ put_at 0 (decimal n) out.old }
 {
     let mut output = Output::over(out);
-    output.append(Digits::of(n).bytes())?;
+    output.append(Buffer::new().format(n))?;
     Ok(output.len())
 }

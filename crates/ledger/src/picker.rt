@@ -10,12 +10,12 @@ pub enum PickerKind {
 
 impl PickerKind {
     // The word that the ledger has for it.
-    pub(crate) fn word(self) -> &'static [u8]
+    pub(crate) fn word(self) -> &'static str
         ensures { result.now ≡ picker_name self }
     {
         match self {
-            PickerKind::Round => b"round",
-            PickerKind::Frame => b"frame",
+            PickerKind::Round => "round",
+            PickerKind::Frame => "frame",
         }
     }
 }

@@ -1,16 +1,17 @@
-ghost use Rattle.std.specs.Prelude.{◌≡◌, ◌≤◌, [], ◌∷◌, length, decimal};
+ghost use Rattle.std.specs.Prelude.{◌≡◌, ◌+◌, ◌≤◌, [], ◌∷◌, length};
 ghost use Rattle.ledger.specs.Lines.{text_of, line_of};
 ghost use Rattle.ledger.specs.SheetLines.{kind_bytes, post_bytes, sheet_bytes};
 
 use crate::element::Written;
 use crate::line::Line;
+use itoa::Integer;
 use texts::sheet::SheetLine;
 use vocabulary::kind::ElementKind;
 
 // A line of a word and a number.
-fn counted(word: &[u8], n: u64) -> Line
-    requires { length word.now ≤ 32 }
-    ensures { text_of result ≡ line_of (word.now ∷ decimal n ∷ []) }
+fn counted<I: Integer>(word: &str, n: I) -> Line
+    requires { length word.now + 2 + I.MAX_STR_LEN ≤ 160 }
+    ensures { text_of result ≡ line_of (word.now ∷ I.text n ∷ []) }
 {
     let mut line = Line::of(word);
     line.number(n);
@@ -22,9 +23,9 @@ fn counted(word: &[u8], n: u64) -> Line
 fn post<T: Written>(worker: u8, element: &T) -> Line
     ensures { text_of result ≡ post_bytes T.Written.fields_of worker element.now }
 {
-    let mut line = Line::of(b"post");
-    line.number(worker as u64);
-    line.field(element.fields().bytes());
+    let mut line = Line::of("post");
+    line.number(worker);
+    line.field(element.fields().text());
     line.end();
     line
 }
@@ -34,7 +35,7 @@ impl Line {
     pub fn kind(kind: ElementKind) -> Line
         ensures { text_of result ≡ kind_bytes kind }
     {
-        let mut line = Line::of(b"kind");
+        let mut line = Line::of("kind");
         line.field(kind.word());
         line.end();
         line
@@ -46,9 +47,9 @@ impl Line {
     {
         match said {
             SheetLine::Post { worker, element } => post(*worker, element),
-            SheetLine::Fetch { worker } => counted(b"fetch", *worker as u64),
-            SheetLine::Step { worker } => counted(b"step", *worker as u64),
-            SheetLine::Turn { count } => counted(b"turn", *count as u64),
+            SheetLine::Fetch { worker } => counted("fetch", *worker),
+            SheetLine::Step { worker } => counted("step", *worker),
+            SheetLine::Turn { count } => counted("turn", *count),
         }
     }
 }
