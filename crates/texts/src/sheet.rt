@@ -5,7 +5,6 @@ ghost use Rattle.texts.specs.Places.{place, opening, after_line};
 ghost use Rattle.texts.specs.Sheets.{last_number, post_line, sheet_line, kind_word, kind_line, kind_at, after_kind, sheet_line_at};
 ghost use Rattle.texts.specs.declared.fault.TextName.{TextName};
 
-use crate::cut::same;
 use crate::element::Element;
 use crate::fault::{Bad, Fault, TextName};
 use crate::fields::Fields;
@@ -26,21 +25,19 @@ pub enum SheetLine<T> {
 }
 
 // The last field of a line, as a number from `low` to `high`.
-pub(crate) fn last_number(fields: Fields<'_>, low: u64, high: u64) -> Result<u64, Bad>
+pub(crate) fn last_number(mut fields: Fields<'_>, low: u64, high: u64) -> Result<u64, Bad>
     ensures value { result ≡ last_number low high (row fields.entry) }
     ensures bound { IfOk result (λ n. n ≤ high) }
 {
-    let mut fields = fields;
     let n = fields.number(low, high)?;
     fields.end()?;
     Ok(n)
 }
 
 // A post's line, from the worker on.
-fn post_line<T: Element>(fields: Fields<'_>) -> Result<SheetLine<T>, Bad>
+fn post_line<T: Element>(mut fields: Fields<'_>) -> Result<SheetLine<T>, Bad>
     ensures { result ≡ post_line T.Element.reads (row fields.entry) }
 {
-    let mut fields = fields;
     let worker = fields.number(0, 255)?;
     let element = T::read(fields)?;
     Ok(SheetLine::Post {
@@ -50,28 +47,27 @@ fn post_line<T: Element>(fields: Fields<'_>) -> Result<SheetLine<T>, Bad>
 }
 
 // What a line of a sheet says, or its leftmost bad field.
-fn sheet_line<T: Element>(fields: Fields<'_>) -> Result<SheetLine<T>, Bad>
+fn sheet_line<T: Element>(mut fields: Fields<'_>) -> Result<SheetLine<T>, Bad>
     ensures { result ≡ sheet_line T.Element.reads (row fields.entry) }
 {
-    let mut fields = fields;
     let bad = fields.next_bad();
     let word = fields.word()?;
-    if same(word, b"post") {
+    if word == b"post".as_slice() {
         return post_line(fields);
     }
-    if same(word, b"fetch") {
+    if word == b"fetch".as_slice() {
         let worker = last_number(fields, 0, 255)?;
         return Ok(SheetLine::Fetch {
             worker: worker as u8,
         });
     }
-    if same(word, b"step") {
+    if word == b"step".as_slice() {
         let worker = last_number(fields, 0, 255)?;
         return Ok(SheetLine::Step {
             worker: worker as u8,
         });
     }
-    if same(word, b"turn") {
+    if word == b"turn".as_slice() {
         let count = last_number(fields, 1, 1_000_000)?;
         return Ok(SheetLine::Turn {
             count: count as u32,
@@ -81,17 +77,16 @@ fn sheet_line<T: Element>(fields: Fields<'_>) -> Result<SheetLine<T>, Bad>
 }
 
 // The kind that the second field of a sheet's first line names.
-fn kind_word(fields: Fields<'_>) -> Result<ElementKind, Bad>
+fn kind_word(mut fields: Fields<'_>) -> Result<ElementKind, Bad>
     ensures { result ≡ kind_word (row fields.entry) }
 {
-    let mut fields = fields;
     let bad = fields.next_bad();
     let word = fields.word()?;
-    if same(word, ElementKind::Bundle.word().as_bytes()) {
+    if word == ElementKind::Bundle.word().as_bytes() {
         fields.end()?;
         return Ok(ElementKind::Bundle);
     }
-    if same(word, ElementKind::Landing.word().as_bytes()) {
+    if word == ElementKind::Landing.word().as_bytes() {
         fields.end()?;
         return Ok(ElementKind::Landing);
     }
@@ -99,13 +94,12 @@ fn kind_word(fields: Fields<'_>) -> Result<ElementKind, Bad>
 }
 
 // What a sheet's first line says: which kind of element its posts bring.
-fn kind_line(fields: Fields<'_>) -> Result<ElementKind, Bad>
+fn kind_line(mut fields: Fields<'_>) -> Result<ElementKind, Bad>
     ensures { result ≡ kind_line (row fields.entry) }
 {
-    let mut fields = fields;
     let bad = fields.next_bad();
     let word = fields.word()?;
-    if same(word, b"kind") {
+    if word == b"kind".as_slice() {
         return kind_word(fields);
     }
     Err(bad)

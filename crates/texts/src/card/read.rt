@@ -7,7 +7,6 @@ ghost use Rattle.texts.specs.Cards.{says, says_or, crew_or, crew_line, frame_of,
 ghost use Rattle.texts.specs.declared.fault.TextName.{TextName};
 
 use crate::card::Card;
-use crate::cut::same;
 use crate::fault::{Bad, Fault, TextName};
 use crate::fields::Fields;
 use crate::reader::Reader;
@@ -19,18 +18,14 @@ use vocabulary::crew::Crew;
 use vocabulary::refusal::Refusal;
 
 // The crew that a card's first line names.
-fn crew_line(fields: Fields<'_>) -> Result<Crew, Bad>
+fn crew_line(mut fields: Fields<'_>) -> Result<Crew, Bad>
     ensures { crew_or result ≡ crew_line (row fields.entry) }
 {
-    let mut fields = fields;
     let bad = fields.next_bad();
     let word = fields.word()?;
-    if same(word, b"crew") {
+    if word == b"crew".as_slice() {
         let n = last_number(fields, 0, 9_999_999_999)?;
-        return match Crew::try_from(n) {
-            Ok(crew) => Ok(crew),
-            Err(number) => Err(Bad { field: 2, number }),
-        };
+        return Crew::try_from(n).map_err(|number| Bad { field: 2, number });
     }
     Err(bad)
 }
@@ -40,20 +35,13 @@ fn bad_worker(n: u8, row: &[u8], number: Refusal) -> Bad
     requires { judged n row.now ≡ Err number }
     ensures { Err result ≡ frame_of n row.now }
 {
-    match number {
-        Refusal::FrameLength => {
-            if row.is_empty() {
-                Bad { field: 3, number }
-            } else {
-                Bad { field: 67, number }
-            }
-        }
-        Refusal::ForeignWorker => Bad {
-            field: 3 + first_foreign(n, row),
-            number,
-        },
-        _ => Bad { field: 2, number },
-    }
+    let field = match number {
+        Refusal::FrameLength if row.is_empty() => 3,
+        Refusal::FrameLength => 67,
+        Refusal::ForeignWorker => 3 + first_foreign(n, row),
+        _ => 2,
+    };
+    Bad { field, number }
 }
 
 // The card of a frame, from its workers on.
@@ -69,30 +57,28 @@ fn frame_line(crew: Crew, fields: Fields<'_>) -> Result<Card, Bad>
 }
 
 // The card that the second field of a card's second line begins.
-fn picker_word(crew: Crew, fields: Fields<'_>) -> Result<Card, Bad>
+fn picker_word(crew: Crew, mut fields: Fields<'_>) -> Result<Card, Bad>
     ensures { says_or result ≡ picker_word crew.n (row fields.entry) }
 {
-    let mut fields = fields;
     let bad = fields.next_bad();
     let word = fields.word()?;
-    if same(word, b"round") {
+    if word == b"round".as_slice() {
         fields.end()?;
         return Ok(Card::Round(Round::of(crew)));
     }
-    if same(word, b"frame") {
+    if word == b"frame".as_slice() {
         return frame_line(crew, fields);
     }
     Err(bad)
 }
 
 // The card of a crew, by its second line.
-fn picker_line(crew: Crew, fields: Fields<'_>) -> Result<Card, Bad>
+fn picker_line(crew: Crew, mut fields: Fields<'_>) -> Result<Card, Bad>
     ensures { says_or result ≡ picker_line crew.n (row fields.entry) }
 {
-    let mut fields = fields;
     let bad = fields.next_bad();
     let word = fields.word()?;
-    if same(word, b"picker") {
+    if word == b"picker".as_slice() {
         return picker_word(crew, fields);
     }
     Err(bad)

@@ -38,7 +38,7 @@ impl<'t> Fields<'t> {
             return Err(self.next_bad());
         }
         let rest = self.rest;
-        let n = length_before(rest, 9);
+        let n = length_before(rest, b'\t');
         let (field, tail) = rest.split_at(n);
         if n < rest.len() {
             self.rest = &tail[1..];
@@ -58,10 +58,9 @@ impl<'t> Fields<'t> {
     {
         let bad = self.next_bad();
         let field = self.word()?;
-        match number(field) {
-            Some(n) if low <= n && n <= high => Ok(n),
-            _ => Err(bad),
-        }
+        number(field)
+            .filter(|n| (low..=high).contains(n))
+            .ok_or(bad)
     }
 
     // The next field as a coordinate of a hit.
@@ -71,10 +70,7 @@ impl<'t> Fields<'t> {
     {
         let bad = self.next_bad();
         let field = self.word()?;
-        match coordinate(field) {
-            Some(c) => Ok(c),
-            None => Err(bad),
-        }
+        coordinate(field).ok_or(bad)
     }
 
     // Whether no field is left.

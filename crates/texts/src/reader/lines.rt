@@ -28,7 +28,7 @@ impl<'t> Line<'t> {
 
     // The fault of one of its fields.
     pub(crate) fn fault(&self, bad: Bad) -> Fault<'t>
-        ensures { spot_of result ≡ bad_line (line_spot self.now) bad }
+        ensures { spot_of result ≡ bad_line (line_spot self.entry.now) bad }
     {
         Fault {
             text: self.text,
@@ -92,7 +92,7 @@ impl<'t> Reader<'t> {
     {
         let text = self.text;
         let (_, rest) = text.split_at(self.at);
-        let n = length_before(rest, 10);
+        let n = length_before(rest, b'\n');
         Line {
             text: self.name,
             number: self.lines + 1,

@@ -32,10 +32,9 @@ impl Workers {
     }
 
     // The workers that all fields name. The leftmost field that is no number is bad.
-    pub(crate) fn named(fields: Fields<'_>) -> Result<Workers, Bad>
+    pub(crate) fn named(mut fields: Fields<'_>) -> Result<Workers, Bad>
         ensures { row_or result ≡ kept_all_or (workers_of (row fields.entry).taken (row fields.entry).left) }
     {
-        let mut fields = fields;
         let mut workers = Workers::none();
         while !fields.is_empty() {
             workers.push(fields.number(0, LARGEST)?);
@@ -51,15 +50,12 @@ impl Workers {
     }
 }
 
-// The place of the first worker that is not below n.
+// The place of the first worker that is not below n; the row's length, if all are.
 pub(crate) fn first_foreign(n: u8, row: &[u8]) -> usize
     ensures value { result ≡ first_foreign n row.now }
     ensures bound { result ≤ length row.now }
 {
-    for (i, worker) in row.iter().enumerate() {
-        if *worker >= n {
-            return i;
-        }
-    }
-    row.len()
+    row.iter()
+        .position(|worker| *worker >= n)
+        .unwrap_or(row.len())
 }
