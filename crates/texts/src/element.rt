@@ -22,14 +22,14 @@ impl Element for Bundle {
     ghost reads = { bundle_of };
 
     fn read(mut fields: Fields<'_>) -> Result<Bundle, Bad> {
-        let field = fields.number(0, 255)?;
-        let wavelength = fields.number(0, 255)?;
-        let rays = fields.number(0, 65_535)?;
+        let field = fields.byte()?;
+        let wavelength = fields.byte()?;
+        let rays = fields.number(0, 65_535)? as u16;
         fields.end()?;
         Ok(Bundle {
-            field: field as u8,
-            wavelength: wavelength as u8,
-            rays: rays as u16,
+            field,
+            wavelength,
+            rays,
         })
     }
 }
@@ -38,11 +38,9 @@ impl Element for Bundle {
 fn lost(mut fields: Fields<'_>) -> Result<Landing, Bad>
     ensures { result ≡ lost_of (row fields.entry) }
 {
-    let surface = fields.number(0, 255)?;
+    let surface = fields.byte()?;
     fields.end()?;
-    Ok(Landing::Lost {
-        surface: surface as u8,
-    })
+    Ok(Landing::Lost { surface })
 }
 
 // The landing of a ray that hit the image plane, from its x on.

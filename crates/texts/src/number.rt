@@ -1,6 +1,9 @@
 ghost use Rattle.std.specs.Prelude.{◌≡◌};
 ghost use Rattle.texts.specs.Numbers.{number_of, signed_by, coordinate_of};
 
+// The largest number that ten digits write.
+pub(crate) const LARGEST: u64 = 9_999_999_999;
+
 // The number that 1 to 10 decimal digits write; none of any other bytes.
 pub(crate) fn number(digits: &[u8]) -> Option<u64>
     ensures { result ≡ number_of digits.now }

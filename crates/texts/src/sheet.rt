@@ -34,16 +34,20 @@ pub(crate) fn last_number(mut fields: Fields<'_>, low: u64, high: u64) -> Result
     Ok(n)
 }
 
+// The last field of a line, as a number from 0 to 255.
+fn last_byte(fields: Fields<'_>) -> Result<u8, Bad>
+    ensures { result ≡ last_number 0 255 (row fields.entry) }
+{
+    Ok(last_number(fields, 0, 255)? as u8)
+}
+
 // A post's line, from the worker on.
 fn post_line<T: Element>(mut fields: Fields<'_>) -> Result<SheetLine<T>, Bad>
     ensures { result ≡ post_line T.Element.reads (row fields.entry) }
 {
-    let worker = fields.number(0, 255)?;
+    let worker = fields.byte()?;
     let element = T::read(fields)?;
-    Ok(SheetLine::Post {
-        worker: worker as u8,
-        element,
-    })
+    Ok(SheetLine::Post { worker, element })
 }
 
 // What a line of a sheet says, or its leftmost bad field.
@@ -51,29 +55,19 @@ fn sheet_line<T: Element>(mut fields: Fields<'_>) -> Result<SheetLine<T>, Bad>
     ensures { result ≡ sheet_line T.Element.reads (row fields.entry) }
 {
     let bad = fields.next_bad();
-    let word = fields.word()?;
-    if word == b"post".as_slice() {
-        return post_line(fields);
+    match fields.word()? {
+        b"post" => post_line(fields),
+        b"fetch" => Ok(SheetLine::Fetch {
+            worker: last_byte(fields)?,
+        }),
+        b"step" => Ok(SheetLine::Step {
+            worker: last_byte(fields)?,
+        }),
+        b"turn" => Ok(SheetLine::Turn {
+            count: last_number(fields, 1, 1_000_000)? as u32,
+        }),
+        _ => Err(bad),
     }
-    if word == b"fetch".as_slice() {
-        let worker = last_number(fields, 0, 255)?;
-        return Ok(SheetLine::Fetch {
-            worker: worker as u8,
-        });
-    }
-    if word == b"step".as_slice() {
-        let worker = last_number(fields, 0, 255)?;
-        return Ok(SheetLine::Step {
-            worker: worker as u8,
-        });
-    }
-    if word == b"turn".as_slice() {
-        let count = last_number(fields, 1, 1_000_000)?;
-        return Ok(SheetLine::Turn {
-            count: count as u32,
-        });
-    }
-    Err(bad)
 }
 
 // The kind that the second field of a sheet's first line names.
@@ -81,28 +75,19 @@ fn kind_word(mut fields: Fields<'_>) -> Result<ElementKind, Bad>
     ensures { result ≡ kind_word (row fields.entry) }
 {
     let bad = fields.next_bad();
-    let word = fields.word()?;
-    if word == ElementKind::Bundle.word().as_bytes() {
-        fields.end()?;
-        return Ok(ElementKind::Bundle);
+    match fields.word()? {
+        b"bundle" => fields.end().and(Ok(ElementKind::Bundle)),
+        b"landing" => fields.end().and(Ok(ElementKind::Landing)),
+        _ => Err(bad),
     }
-    if word == ElementKind::Landing.word().as_bytes() {
-        fields.end()?;
-        return Ok(ElementKind::Landing);
-    }
-    Err(bad)
 }
 
 // What a sheet's first line says: which kind of element its posts bring.
 fn kind_line(mut fields: Fields<'_>) -> Result<ElementKind, Bad>
     ensures { result ≡ kind_line (row fields.entry) }
 {
-    let bad = fields.next_bad();
-    let word = fields.word()?;
-    if word == b"kind".as_slice() {
-        return kind_word(fields);
-    }
-    Err(bad)
+    fields.keyword(b"kind")?;
+    kind_word(fields)
 }
 
 impl<'t> Reader<'t> {

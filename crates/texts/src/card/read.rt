@@ -3,12 +3,13 @@ ghost use Rattle.vocabulary.specs.declared.refusal.Refusal.{Refusal};
 ghost use Rattle.pickers.specs.Frames.{judged};
 ghost use Rattle.texts.specs.Lines.{row};
 ghost use Rattle.texts.specs.Places.{opening};
-ghost use Rattle.texts.specs.Cards.{says, says_or, crew_or, crew_line, frame_of, frame_line, picker_word, picker_line, card_of, card_read};
+ghost use Rattle.texts.specs.Cards.{says, says_or, crew_or, crew_line, frame_of, frame_line, picker_line, card_of, card_read};
 ghost use Rattle.texts.specs.declared.fault.TextName.{TextName};
 
 use crate::card::Card;
 use crate::fault::{Bad, Fault, TextName};
 use crate::fields::Fields;
+use crate::number::LARGEST;
 use crate::reader::Reader;
 use crate::sheet::last_number;
 use crate::workers::{Workers, first_foreign};
@@ -21,13 +22,9 @@ use vocabulary::refusal::Refusal;
 fn crew_line(mut fields: Fields<'_>) -> Result<Crew, Bad>
     ensures { crew_or result ≡ crew_line (row fields.entry) }
 {
-    let bad = fields.next_bad();
-    let word = fields.word()?;
-    if word == b"crew".as_slice() {
-        let n = last_number(fields, 0, 9_999_999_999)?;
-        return Crew::try_from(n).map_err(|number| Bad { field: 2, number });
-    }
-    Err(bad)
+    fields.keyword(b"crew")?;
+    let n = last_number(fields, 0, LARGEST)?;
+    Crew::try_from(n).map_err(|number| Bad { field: 2, number })
 }
 
 // The field at which a row of workers, from field 3 on, is bad if it was refused.
@@ -56,32 +53,20 @@ fn frame_line(crew: Crew, fields: Fields<'_>) -> Result<Card, Bad>
     }
 }
 
-// The card that the second field of a card's second line begins.
-fn picker_word(crew: Crew, mut fields: Fields<'_>) -> Result<Card, Bad>
-    ensures { says_or result ≡ picker_word crew.n (row fields.entry) }
-{
-    let bad = fields.next_bad();
-    let word = fields.word()?;
-    if word == b"round".as_slice() {
-        fields.end()?;
-        return Ok(Card::Round(Round::of(crew)));
-    }
-    if word == b"frame".as_slice() {
-        return frame_line(crew, fields);
-    }
-    Err(bad)
-}
-
 // The card of a crew, by its second line.
 fn picker_line(crew: Crew, mut fields: Fields<'_>) -> Result<Card, Bad>
     ensures { says_or result ≡ picker_line crew.n (row fields.entry) }
 {
+    fields.keyword(b"picker")?;
     let bad = fields.next_bad();
-    let word = fields.word()?;
-    if word == b"picker".as_slice() {
-        return picker_word(crew, fields);
+    match fields.word()? {
+        b"round" => {
+            fields.end()?;
+            Ok(Card::of(crew))
+        }
+        b"frame" => frame_line(crew, fields),
+        _ => Err(bad),
     }
-    Err(bad)
 }
 
 impl Card {

@@ -5,10 +5,8 @@ ghost use Rattle.texts.specs.Workers.{row_kept, row_or, kept, kept_all_or};
 
 use crate::fault::Bad;
 use crate::fields::Fields;
+use crate::number::LARGEST;
 use crate::workers::{MOST, Workers};
-
-// The largest number that ten digits write.
-const LARGEST: u64 = 9_999_999_999;
 
 impl Workers {
     // No worker yet.
