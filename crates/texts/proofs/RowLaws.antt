@@ -1,5 +1,5 @@
 -- The row of fields that is left of a line, by the place of the next tab.
-use Rattle.std.proofs.Common.{◌≡◌, ℕ, suc, ◌+◌, ◌<◌, ◌≤◌, Bool, true, false, not, List, [], length, take, drop, Some, None, Ok, Option, Result, sym, refl, ap, ◌∙◌, ◌⊎◌, inl, inr, add-one, arith}
+use Rattle.std.proofs.Common.{◌≡◌, ℕ, ◌+◌, ◌<◌, ◌≤◌, Bool, true, false, not, List, [], length, take, Some, None, Ok, Option, Result, sym, refl, ap, ◌∙◌, ◌⊎◌, add-one, arith}
 use Rattle.std.specs.Borrow.{Bor}
 use Rattle.std.specs.List.{slice_range}
 use Rattle.std.specs.Option.{MatchOption, is_some}

@@ -12,7 +12,7 @@ use crate::fields::Fields;
 use crate::number::LARGEST;
 use crate::reader::Reader;
 use crate::sheet::last_number;
-use crate::workers::{Workers, first_foreign};
+use crate::workers::{first_foreign, named};
 use pickers::frame::Frame;
 use pickers::round::Round;
 use vocabulary::crew::Crew;
@@ -45,11 +45,12 @@ fn bad_worker(n: u8, row: &[u8], number: Refusal) -> Bad
 fn frame_line(crew: Crew, fields: Fields<'_>) -> Result<Card, Bad>
     ensures { says_or result ≡ frame_line crew.n (row fields.entry) }
 {
-    let workers = Workers::named(fields)?;
+    let workers = named(fields)?;
+    let workers = workers.as_slice();
     let mut frame = Frame::first(crew);
-    match frame.fill(workers.row()) {
+    match frame.fill(workers) {
         Ok(()) => Ok(Card::Frame(frame)),
-        Err(number) => Err(bad_worker(crew.size(), workers.row(), number)),
+        Err(number) => Err(bad_worker(crew.size(), workers, number)),
     }
 }
 

@@ -1,5 +1,5 @@
 -- The place of the first separator is the length of what is before it.
-use Rattle.std.proofs.Common.{◌≡◌, ℕ, length, Option, Some, None, cond, ltb, eqb, ap, ◌∙◌, rules, arith}
+use Rattle.std.proofs.Common.{eqb, ◌∙◌, rules}
 use Rattle.std.proofs.lemmas.Iterator.{YieldsList-from_slice}
 use Rattle.std.proofs.lemmas.Iterator.Search.{position_from_yields_List}
 use borrow.Author.Tests.{tests}

@@ -1,7 +1,4 @@
 -- The word is what stands before the next tab, and what comes after that tab is left.
-use Rattle.std.proofs.Common.{◌≡◌, ◌+◌, ◌<◌, ◌≤◌, length, drop, ap, ◌∙◌, arith, rules}
-use Rattle.std.specs.Option.{MatchOption}
-use Rattle.texts.specs.Lines.{fields_in, word_at, next_row}
 use Rattle.texts.proofs.RowLaws.{word-is, next-is}
 use Rattle.texts.proofs.fields.Fields.word.Goals as goal
 

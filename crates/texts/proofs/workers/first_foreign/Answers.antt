@@ -4,7 +4,7 @@ use Rattle.std.proofs.lemmas.Iterator.{YieldsList-from_slice}
 use Rattle.std.proofs.lemmas.Iterator.Search.{position_from_yields_List}
 use borrow.Author.Tests.{tests}
 use Rattle.texts.proofs.WorkerLaws.{foreign-place}
-use Rattle.texts.proofs.workers.named.first_foreign.Goals as goal
+use Rattle.texts.proofs.workers.first_foreign.Goals as goal
 
 pub returns-clause-value : goal.returns-clause-value
 returns-clause-value c =
