@@ -1,8 +1,7 @@
 ghost use Rattle.std.specs.Prelude.{◌≡◌};
 ghost use Rattle.texts.specs.declared.fault.TextName.{TextName};
 ghost use Rattle.texts.specs.Cards.{card_of};
-ghost use Rattle.texts.specs.Faults.{placed};
-ghost use Rattle.texts.specs.Heads.{heads_of, Held, sheet_after};
+ghost use Rattle.texts.specs.Heads.{heads_of, heads_read, sheet_after};
 ghost use Rattle.texts.specs.Places.{place, opening};
 
 use crate::card::Card;
@@ -10,17 +9,16 @@ use crate::fault::Fault;
 use crate::reader::Reader;
 use vocabulary::kind::ElementKind;
 
-// Reads a card in place of the one held, and then the sheet's first line. The first fault counts, whichever text it is
-// of. A card without a fault is held then, whatever the sheet's first line is.
+// The card of a text, and the kind of element that the sheet's first line names. The first fault counts, whichever text
+// it is of. A caller that wants the card also where the sheet's first line is bad calls `Card::read` alone.
 pub fn read_heads<'t>(
-    card: &mut Card,
     text: &'t [u8],
     sheet: &mut Reader<'t>,
-) -> Result<ElementKind, Fault<'t>>
-    ensures value { placed result ≡ heads_of (card_of (opening TextName.Card text.entry)) (place sheet.old) }
-    ensures held { Held (card_of (opening TextName.Card text.entry)) card.old card.new }
+) -> Result<(Card, ElementKind), Fault<'t>>
+    ensures value { heads_read result ≡ heads_of (card_of (opening TextName.Card text.entry)) (place sheet.old) }
     ensures after { place sheet.new ≡ sheet_after (card_of (opening TextName.Card text.entry)) (place sheet.old) }
 {
-    card.read(text)?;
-    sheet.kind()
+    let card = Card::read(text)?;
+    let kind = sheet.kind()?;
+    Ok((card, kind))
 }

@@ -1,4 +1,4 @@
-ghost use Rattle.std.specs.Prelude.{◌≡◌, None, Ok, Err, OnErr};
+ghost use Rattle.std.specs.Prelude.{◌≡◌, None, Ok, Err};
 ghost use Rattle.vocabulary.specs.declared.refusal.Refusal.{Refusal};
 ghost use Rattle.pickers.specs.Frames.{judged};
 ghost use Rattle.texts.specs.Lines.{row};
@@ -71,32 +71,24 @@ fn picker_line(crew: Crew, mut fields: Fields<'_>) -> Result<Card, Bad>
 }
 
 impl Card {
-    // The card that is held before any was read: rounds of the crew.
+    // The card of rounds of a crew, which worker 0 begins.
     pub fn of(crew: Crew) -> Card
         ensures { says result ≡ record { crew = crew.n; row = None; next = 0 } }
     {
         Card::Round(Round::of(crew))
     }
 
-    // Reads a card in place of the one held, which stays where the text has a fault.
-    pub fn read<'t>(&mut self, text: &'t [u8]) -> Result<(), Fault<'t>>
-        ensures value { card_read result self.new ≡ card_of (opening TextName.Card text.entry) }
-        ensures same { OnErr result (self.new ≡ self.old) }
+    // The card that a text holds, or its fault.
+    pub fn read(text: &[u8]) -> Result<Card, Fault<'_>>
+        ensures { card_read result ≡ card_of (opening TextName.Card text.entry) }
     {
         let mut reader = Reader::of(TextName::Card, text);
         reader.size()?;
         let line = reader.line()?;
-        let crew = match crew_line(line.fields()) {
-            Ok(crew) => crew,
-            Err(bad) => return Err(line.fault(bad)),
-        };
+        let crew = line.judged(crew_line(line.fields()))?;
         let line = reader.line()?;
-        let card = match picker_line(crew, line.fields()) {
-            Ok(card) => card,
-            Err(bad) => return Err(line.fault(bad)),
-        };
+        let card = line.judged(picker_line(crew, line.fields()))?;
         reader.end()?;
-        *self = card;
-        Ok(())
+        Ok(card)
     }
 }
