@@ -2,7 +2,7 @@ ghost use Rattle.std.specs.Prelude.{◌≡◌};
 ghost use Rattle.texts.specs.declared.fault.TextName.{TextName};
 ghost use Rattle.texts.specs.Cards.{card_of};
 ghost use Rattle.texts.specs.Heads.{heads_of, heads_read, sheet_after};
-ghost use Rattle.texts.specs.Places.{place, opening};
+ghost use Rattle.texts.specs.Places.{opening};
 
 use crate::card::Card;
 use crate::fault::Fault;
@@ -15,8 +15,8 @@ pub fn read_heads<'t>(
     text: &'t [u8],
     sheet: &mut Reader<'t>,
 ) -> Result<(Card, ElementKind), Fault<'t>>
-    ensures value { heads_read result ≡ heads_of (card_of (opening TextName.Card text.entry)) (place sheet.old) }
-    ensures after { place sheet.new ≡ sheet_after (card_of (opening TextName.Card text.entry)) (place sheet.old) }
+    ensures value { heads_read result ≡ heads_of (card_of (opening TextName.Card text.entry)) sheet.old }
+    ensures after { sheet.new ≡ sheet_after (card_of (opening TextName.Card text.entry)) sheet.old }
 {
     let card = Card::read(text)?;
     let kind = sheet.kind()?;

@@ -1,7 +1,7 @@
 ghost use Rattle.std.specs.Prelude.{◌≡◌, ◌≤◌, IfOk};
 ghost use Rattle.texts.specs.Lines.{row};
 ghost use Rattle.texts.specs.Faults.{placed};
-ghost use Rattle.texts.specs.Places.{place, opening, after_line};
+ghost use Rattle.texts.specs.Places.{opening, after_line};
 ghost use Rattle.texts.specs.Sheets.{last_number, post_line, sheet_line, kind_word, kind_line, kind_at, after_kind, sheet_line_at};
 ghost use Rattle.texts.specs.declared.fault.TextName.{TextName};
 
@@ -93,15 +93,15 @@ fn kind_line(mut fields: Fields<'_>) -> Result<ElementKind, Bad>
 impl<'t> Reader<'t> {
     // A sheet before its first line.
     pub fn sheet(text: &'t [u8]) -> Reader<'t>
-        ensures { place result ≡ opening TextName.Sheet text.entry }
+        ensures { result ≡ opening TextName.Sheet text.entry }
     {
         Reader::of(TextName::Sheet, text)
     }
 
     // The kind of element that the sheet's next line, the first, names. The sheet's size is judged before that line.
     pub fn kind(&mut self) -> Result<ElementKind, Fault<'t>>
-        ensures value { placed result ≡ kind_at (place self.old) }
-        ensures after { place self.new ≡ after_kind (place self.old) }
+        ensures value { placed result ≡ kind_at self.old }
+        ensures after { self.new ≡ after_kind self.old }
     {
         self.size()?;
         let line = self.line()?;
@@ -110,8 +110,8 @@ impl<'t> Reader<'t> {
 
     // What the sheet's next line says, none at its end.
     pub fn next_line<T: Element>(&mut self) -> Result<Option<SheetLine<T>>, Fault<'t>>
-        ensures value { placed result ≡ sheet_line_at T.Element.reads (place self.old) }
-        ensures after { place self.new ≡ after_line (place self.old) }
+        ensures value { placed result ≡ sheet_line_at T.Element.reads self.old }
+        ensures after { self.new ≡ after_line self.old }
     {
         if self.is_read() {
             return Ok(None);
