@@ -21,7 +21,7 @@ impl<'t> Model for Reader<'t> {
 
     ghost view = { λ r. record { name = r.name; origin = r.text.ref_ptr; total = length r.text.now; lines = r.lines; start = r.at; rest = drop r.at r.text.now } };
 
-    ghost invariant = { λ r. (r.at ≤ length r.text.now) × (r.lines ≤ r.at) };
+    ghost invariant = { λ r. record { within : r.at ≤ length r.text.now; counted : r.lines ≤ r.at } };
 }
 
 // A line without its byte 10: which text's, its number, and its bytes where they stand in that text.

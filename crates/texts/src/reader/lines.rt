@@ -28,7 +28,7 @@ impl<'t> Line<'t> {
 
     // The fault of one of its fields.
     pub(crate) fn fault(&self, bad: Bad) -> Fault<'t>
-        ensures { spot_of result ≡ bad_line (line_spot self.entry.now) bad }
+        ensures { spot_of result ≡ bad_line (line_spot self.now) bad }
     {
         Fault {
             text: self.text,

@@ -24,9 +24,9 @@ invariant_of-self c =
     let n = length c.whole_line-line.result.bytes.now in
     let line = rw (← c.self.view_is) at c.whole_line-line.ensures in
     let here : length c.whole_line-line.result.bytes.now ≡ length (before 10 (drop at xs)) = ap (λ l. length l.bytes) line in
-    let l = line-within xs at n here c.self.invariant.0 in
+    let l = line-within xs at n here c.self.invariant.within in
     let ne = c.if-end-self.false in
-    (grind arith, omega (arith, c.self.invariant.1))
+    record { within = grind arith; counted = omega (arith, c.self.invariant.counted) }
 
 pub returns : goal.returns
 returns c =
@@ -35,7 +35,7 @@ returns c =
     let n = length c.whole_line-line.result.bytes.now in
     let line = rw (← c.self.view_is) at c.whole_line-line.ensures in
     let here : length c.whole_line-line.result.bytes.now ≡ length (before 10 (drop at xs)) = ap (λ l. length l.bytes) line in
-    let l = line-within xs at n here c.self.invariant.0 in
+    let l = line-within xs at n here c.self.invariant.within in
     let ne = c.if-end-self.false in
     let ended = line-ended xs at n here (grind arith) in
     rw (← c.self.view_is) (record {
