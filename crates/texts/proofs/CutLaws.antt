@@ -1,7 +1,10 @@
 -- What is before, after and between separators, by places: the length of what is before tells all of it.
-use Rattle.std.proofs.Common.{◌≡◌, ℕ, suc, ◌+◌, ◌<◌, ◌≤◌, true, false, cond, eqb, ltb, List, [], ◌∷◌, length, get_or, take, drop, refl, ap, inl, inr, arith}
-use Rattle.std.proofs.lemmas.List.{at_drop_more}
-use Rattle.std.proofs.lemmas.Bool.{both_ways, cases_Bool, eq-eqb, ne_eqb}
+use Rattle.std.proofs.Common.{◌≡◌, ℕ, suc, ◌<◌, ◌≤◌, Bool, true, false, not, cond, eqb, ltb, List, [], ◌∷◌, length, take, drop, Option, Some, None, sym, ◌∙◌, refl, ap, inl, inr, arith}
+use Rattle.std.specs.List.{position_or_len}
+use Rattle.std.specs.Option.{unwrap_or}
+use Rattle.std.proofs.lemmas.List.Sums.{prefix_len-le-length}
+use Rattle.std.proofs.lemmas.List.Recursion.{is_position_or_len}
+use Rattle.std.proofs.lemmas.Bool.{both_ways, cases_Bool, cases_lt, lt-ltb, le-ltb}
 use Rattle.std.proofs.lemmas.Bool.Decides.{nat_tests}
 use Rattle.texts.specs.Cuts.{before, after, has, cut, onto}
 
@@ -26,16 +29,16 @@ pub cut_step : (s : ℕ) (xs : List ℕ) → cut s xs ≡ before s xs ∷ cond (
 cut_step s [] = refl
 cut_step s (x ∷ xs) = elim (cases_Bool (eqb x s)) [ inl t ↦ rw t refl | inr f ↦ rw f (ap (onto x) (cut_step s xs)) ]
 
--- at a place of the list: the separator stands there, or one byte more comes before it
-pub length-before-none : (s : ℕ) (xs : List ℕ) (i : ℕ) → i < length xs → get_or xs i 0 ≡ s → length (before s (drop i xs)) ≡ 0
-length-before-none s xs i l e =
-    let step : before s (drop i xs) ≡ cond (eqb (get_or xs i 0) s) [] (get_or xs i 0 ∷ before s (drop (i + 1) xs)) = at_drop_more (before s) xs i 0 l in
-    rw (step, eq-eqb (get_or xs i 0) s e) refl
+-- the first place where a test passes, or else the length
+pub first-or-length : {X : Type 0} (test : X → Bool) (xs : List X) (o : Option ℕ) → o ≡ cond (ltb (position_or_len test xs) (length xs)) (Some (position_or_len test xs)) None → unwrap_or o (length xs) ≡ position_or_len test xs
+first-or-length test xs o e = go (position_or_len test xs) (length xs) o e (prefix_len-le-length (λ x. not (test x)) xs)
+  where
+    go : (n l : ℕ) (o : Option ℕ) → o ≡ cond (ltb n l) (Some n) None → n ≤ l → unwrap_or o l ≡ n
+    go n l o e h = elim (cases_lt n l) [ inl t ↦ rw (e, lt-ltb n l t) refl | inr f ↦ rw (e, le-ltb n l f) (omega arith) ]
 
-pub length-before-more : (s : ℕ) (xs : List ℕ) (i : ℕ) → i < length xs → (get_or xs i 0 ≡ s → ⊥) → length (before s (drop i xs)) ≡ length (before s (drop (i + 1) xs)) + 1
-length-before-more s xs i l n =
-    let step : before s (drop i xs) ≡ cond (eqb (get_or xs i 0) s) [] (get_or xs i 0 ∷ before s (drop (i + 1) xs)) = at_drop_more (before s) xs i 0 l in
-    rw (step, ne_eqb (get_or xs i 0) s n) (omega arith)
+-- the length of what is before is the place of the first separator
+pub before-place : (s : ℕ) (xs : List ℕ) (o : Option ℕ) → o ≡ cond (ltb (position_or_len (λ b. eqb b s) xs) (length xs)) (Some (position_or_len (λ b. eqb b s) xs)) None → unwrap_or o (length xs) ≡ length (before s xs)
+before-place s xs o e = first-or-length (λ b. eqb b s) xs o e ∙ sym (is_position_or_len (λ ys. length (before s ys)) (λ b. eqb b s) refl (λ y ys. grind (arith, nat_tests)) xs)
 
 -- what comes after a separator is shorter
 pub after-shorter : (s : ℕ) (xs : List ℕ) → has s xs ≡ true → length (after s xs) < length xs

@@ -7,11 +7,12 @@ use Rattle.texts.specs.Cuts.{before, after, has}
 use Rattle.texts.specs.Places.{all_read}
 use Rattle.texts.proofs.CutLaws.{has-is, after_is, before-is, before-le}
 
+-- the next line of what is left of a text
+pub line-bytes : (ys zs : List ℕ) (n : ℕ) → ys ≡ zs → n ≡ length (before 10 ys) → take n ys ≡ before 10 zs
+line-bytes ys zs n e here = ap (λ k. take k ys) here ∙ sym (before-is 10 ys) ∙ ap (before 10) e
+
 -- a text xs read up to a, with n bytes before the next byte 10
 module _ (xs : List ℕ) (a n : ℕ) (here : n ≡ length (before 10 (drop a xs))) where
-  pub line-bytes : take ((a + n) - a) (drop a xs) ≡ before 10 (drop a xs)
-  line-bytes = let e : (a + n) - a ≡ length (before 10 (drop a xs)) = omega arith in ap (λ k. take k (drop a xs)) e ∙ sym (before-is 10 (drop a xs))
-
   pub line-within : a ≤ length xs → a + n ≤ length xs
   line-within l = let b = before-le 10 (drop a xs) in omega (arith, length-drop a xs)
 

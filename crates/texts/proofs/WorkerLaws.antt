@@ -1,16 +1,19 @@
 -- The workers that are kept of a line, and that they are judged as the line's own numbers are.
-use Rattle.std.proofs.Common.{◌≡◌, ℕ, zero, suc, ◌+◌, ◌<◌, ◌≤◌, min, true, false, ltb, List, [], ◌∷◌, map, length, take, set, refl, ap, ◌∙◌, inl, inr, arith}
-use Rattle.std.proofs.lemmas.List.{take_more_set, take_all, length-take-le, length-map}
+use Rattle.std.proofs.Common.{◌≡◌, ℕ, zero, suc, ◌<◌, ◌≤◌, true, false, leb, ltb, List, [], ◌∷◌, map, length, Option, Some, None, cond, sym, refl, ap, ◌∙◌, inl, inr, arith}
+use Rattle.std.proofs.lemmas.List.{take_all, length-take-le, length-map}
+use Rattle.std.specs.List.{position_or_len}
+use Rattle.std.specs.Option.{unwrap_or}
+use Rattle.texts.proofs.CutLaws.{first-or-length}
+use Rattle.std.proofs.lemmas.List.Recursion.{is_position_or_len}
 use Rattle.std.proofs.lemmas.Bool.{and_parts, cases_Bool, cases_lt, ltb-true, lt-ltb, ne_eqb}
 use Rattle.std.proofs.lemmas.Bool.Decides.{nat_tests}
 use Rattle.pickers.specs.Frames.{names, all_below, all_named}
 use Rattle.texts.specs.Cards.{first_foreign, frame_of}
-use Rattle.texts.specs.Workers.{kept, kept_all, byte_of}
+use Rattle.texts.specs.Workers.{kept_all, byte_of}
 
-pub push-room : (xs : List ℕ) (n w b : ℕ) → length xs ≡ 65 → n < 65 → b ≡ min w 255 → take (n + 1) (set xs n b) ≡ kept (take n xs) w
-push-room xs n w b l h e =
-    let k : length (take n xs) ≡ n = length-take-le n xs (omega arith) in
-    take_more_set xs n b (omega arith) ∙ rw (k, lt-ltb n 65 h, e) refl
+-- the first worker that is not below n stands at the first place where that test passes
+pub foreign-place : (n : ℕ) (ws : List ℕ) (o : Option ℕ) → o ≡ cond (ltb (position_or_len (λ w. leb n w) ws) (length ws)) (Some (position_or_len (λ w. leb n w) ws)) None → unwrap_or o (length ws) ≡ first_foreign n ws
+foreign-place n ws o e = first-or-length (λ w. leb n w) ws o e ∙ sym (is_position_or_len (first_foreign n) (λ w. leb n w) refl (λ y ys. grind (arith, nat_tests)) ws)
 
 -- a worker's byte is judged as the worker's own number is, for any n that a byte can be
 below-bytes : (n : ℕ) (ws : List ℕ) → n ≤ 255 → all_below n (map byte_of ws) ≡ all_below n ws

@@ -10,7 +10,7 @@ use Rattle.texts.specs.declared.card.Card.{Card}
 use Rattle.texts.specs.declared.fault.Bad.{Bad}
 use Rattle.texts.specs.declared.fault.Fault.{Fault}
 use Rattle.texts.specs.Faults.{Spot, spot_of}
-use Rattle.texts.specs.Lines.{Row, row_of, next_row, bad_row, kept_or, word_at, end_at, and_then}
+use Rattle.texts.specs.Lines.{Row, row_of, next_row, bad_row, kept_or, word_at, keyword_at, end_at, and_then}
 use Rattle.texts.specs.Numbers.{number_of, within}
 use Rattle.texts.specs.Places.{Place, line_at, after_line, size_of, judged_line, end_of_text}
 use Rattle.texts.specs.Sheets.{last_number}
@@ -41,7 +41,7 @@ at_field i (Err e) = Err (record { field = i; number = e })
 
 -- `crew` and a number; a number that is no crew is bad at field 2, once the line has its form
 abbrev pub crew_line : Row → Result ℕ Bad
-crew_line v = and_then (word_at v) (λ w. cond (bytes_eq w (codes "crew")) (and_then (last_number 0 9999999999 (next_row v)) (λ n. at_field 2 (crew_of n))) (Err (bad_row v)))
+crew_line v = and_then (keyword_at (codes "crew") v) (λ _. and_then (last_number 0 9999999999 (next_row v)) (λ n. at_field 2 (crew_of n)))
 
 -- the numbers of all fields that are left, of which `taken` were taken before; the leftmost that is no number is bad
 abbrev pub workers_of : ℕ → List (List ℕ) → Result (List ℕ) Bad
@@ -72,7 +72,7 @@ picker_word n v = and_then (word_at v) (λ w. cond (bytes_eq w (codes "round")) 
 
 -- `picker` and how it picks
 abbrev pub picker_line : ℕ → Row → Result CardSays Bad
-picker_line n v = and_then (word_at v) (λ w. cond (bytes_eq w (codes "picker")) (picker_word n (next_row v)) (Err (bad_row v)))
+picker_line n v = and_then (keyword_at (codes "picker") v) (λ _. picker_word n (next_row v))
 
 -- a card is judged by its size, its line 1, its line 2, and that nothing follows
 abbrev pub card_of : Place → Result CardSays Spot
@@ -80,7 +80,7 @@ card_of p = and_then (size_of p) (λ _. and_then (line_at p) (λ l. and_then (ju
     and_then (line_at (after_line p)) (λ m. and_then (judged_line m (picker_line n (row_of m.bytes))) (λ c.
     and_then (end_of_text (after_line (after_line p))) (λ _. Ok c))))))
 
--- what a reading of a card comes to: what the card held then says, or the fault
-abbrev pub card_read : Result (Unit {0}) Fault → Card → Result CardSays Spot
-card_read (Ok u) c = Ok (says c)
-card_read (Err f) c = Err (spot_of f)
+-- what a reading of a card gives: what the card says, or the fault
+abbrev pub card_read : Result Card Fault → Result CardSays Spot
+card_read (Ok c) = Ok (says c)
+card_read (Err f) = Err (spot_of f)

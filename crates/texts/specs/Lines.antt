@@ -1,6 +1,7 @@
 -- How the fields of a line are taken, one after another. The first that breaks its rule is the bad one.
 use Rattle.std.specs.Prelude.{ℕ, ◌+◌, Bool, true, false, cond, List, [], ◌∷◌, ℤ, Some, None, Ok, Err, Option, Result}
 use Rattle.std.specs.Borrow.{Bor}
+use Rattle.std.specs.Str.{bytes_eq}
 use Rattle.vocabulary.specs.declared.refusal.Refusal.TheVariants.{Format}
 use Rattle.texts.specs.declared.fault.Bad.{Bad}
 use Rattle.texts.specs.declared.fields.Fields.{Fields}
@@ -16,9 +17,14 @@ pub record Row : Type 0 where
 abbrev pub row_of : List ℕ → Row
 row_of line = record { left = cut 9 line; taken = 0 }
 
+-- the fields of the rest of a line; none, if there is no rest
+abbrev pub fields_in : Option (Bor (List ℕ)) → List (List ℕ)
+fields_in None = []
+fields_in (Some r) = cut 9 r.now
+
 -- the row that the code's fields stand for
 abbrev pub row : Fields → Row
-row f = record { left = cond f.more (cut 9 f.rest.now) []; taken = f.taken }
+row f = record { left = fields_in f.rest; taken = f.taken }
 
 -- the row without its first field
 abbrev pub after_first : List (List ℕ) → ℕ → Row
@@ -42,9 +48,18 @@ abbrev pub by_rule : {A : Type 0} → Bad → (List ℕ → Option A) → List (
 by_rule bad rule [] = Err bad
 by_rule bad rule (x ∷ xs) = kept_or bad (rule x)
 
+-- one rule after another, up to the first bad field
+abbrev pub and_then : {A B E : Type 0} → Result A E → (A → Result B E) → Result B E
+and_then (Ok a) rule = rule a
+and_then (Err e) rule = Err e
+
 -- the next field as it stands
 abbrev pub word_at : Row → Result (List ℕ) Bad
 word_at v = by_rule (bad_row v) Some v.left
+
+-- the next field is this word
+abbrev pub keyword_at : List ℕ → Row → Result (Unit {0}) Bad
+keyword_at word v = and_then (word_at v) (λ w. cond (bytes_eq w word) (Ok tt) (Err (bad_row v)))
 
 -- the next field as a number from low to high
 abbrev pub number_at : ℕ → ℕ → Row → Result ℕ Bad
@@ -71,8 +86,3 @@ end_at v = none_left (bad_row v) v.left
 abbrev pub bare : Result (Bor (List ℕ)) Bad → Result (List ℕ) Bad
 bare (Ok w) = Ok w.now
 bare (Err b) = Err b
-
--- one rule after another, up to the first bad field
-abbrev pub and_then : {A B E : Type 0} → Result A E → (A → Result B E) → Result B E
-and_then (Ok a) rule = rule a
-and_then (Err e) rule = Err e

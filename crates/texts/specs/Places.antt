@@ -1,11 +1,10 @@
 -- A text read line by line: its lines, and the faults of a missing, unended or surplus line.
-use Rattle.std.specs.Prelude.{ℕ, ◌+◌, Bool, true, false, cond, List, [], ◌∷◌, length, drop, Ok, Err, Result, nat_lt}
+use Rattle.std.specs.Prelude.{ℕ, ◌+◌, Bool, true, false, cond, List, [], ◌∷◌, length, Ok, Err, Result, nat_lt}
 use Rattle.std.specs.Borrow.{Bor}
 use Rattle.vocabulary.specs.declared.refusal.Refusal.TheVariants.{Format}
 use Rattle.texts.specs.declared.fault.Bad.{Bad}
 use Rattle.texts.specs.declared.fault.TextName.{TextName}
 use Rattle.texts.specs.declared.reader.Line.{Line}
-use Rattle.texts.specs.declared.reader.Reader.{Reader}
 use Rattle.texts.specs.Cuts.{before, after, has}
 use Rattle.texts.specs.Faults.{Spot, spot_of}
 use Rattle.texts.specs.declared.fault.Fault.{Fault}
@@ -23,10 +22,6 @@ pub record Place : Type 0 where
 
 abbrev pub opening : TextName → Bor (List ℕ) → Place
 opening name text = record { name = name; origin = text.ref_ptr; total = length text.now; lines = 0; start = 0; rest = text.now }
-
--- the place that the code's reader stands for
-abbrev pub place : Reader → Place
-place r = record { name = r.name; origin = r.text.ref_ptr; total = length r.text.now; lines = r.lines; start = r.at; rest = drop r.at r.text.now }
 
 -- a line with its number, its bytes and where they lie
 pub record LineSpot : Type 0 where

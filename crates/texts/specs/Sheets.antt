@@ -6,7 +6,7 @@ use Rattle.vocabulary.specs.Kinds.{element_word}
 use Rattle.texts.specs.declared.fault.Bad.{Bad}
 use Rattle.texts.specs.declared.sheet.SheetLine.{SheetLine}
 use Rattle.texts.specs.Faults.{Spot}
-use Rattle.texts.specs.Lines.{Row, row_of, next_row, bad_row, word_at, number_at, end_at, and_then}
+use Rattle.texts.specs.Lines.{Row, row_of, next_row, bad_row, word_at, keyword_at, number_at, end_at, and_then}
 use Rattle.texts.specs.Places.{Place, line_at, after_line, size_of, too_long, judged_line, all_read}
 
 -- a number from low to high, and nothing after it
@@ -41,7 +41,7 @@ kind_word v = and_then (word_at v) (λ w. cond (bytes_eq w (element_word Element
 
 -- `kind` and the word of a kind of element
 abbrev pub kind_line : Row → Result ElementKind Bad
-kind_line v = and_then (word_at v) (λ w. cond (bytes_eq w (codes "kind")) (kind_word (next_row v)) (Err (bad_row v)))
+kind_line v = and_then (keyword_at (codes "kind") v) (λ _. kind_word (next_row v))
 
 -- a sheet's size is judged first, and then its first line
 abbrev pub kind_at : Place → Result ElementKind Spot

@@ -1,13 +1,10 @@
 -- The workers that a line of a card names, as they are kept until they fill a frame.
 use Rattle.std.specs.Prelude.{ℕ, min, cond, List, [], ◌∷◌, ◌++◌, map, length, take, Ok, Err, Result, nat_lt}
+use Rattle.arrayvec.specs.ArrayVec.{ArrayVec}
 use Rattle.texts.specs.declared.fault.Bad.{Bad}
-use Rattle.texts.specs.declared.workers.Workers.{Workers}
 
-abbrev pub row_kept : Workers → List ℕ
-row_kept k = take k.count k.places
-
-abbrev pub row_or : Result Workers Bad → Result (List ℕ) Bad
-row_or (Ok k) = Ok (row_kept k)
+abbrev pub row_or : Result (ArrayVec ℕ) Bad → Result (List ℕ) Bad
+row_or (Ok k) = Ok k.items
 row_or (Err b) = Err b
 
 -- a number too large for a byte is kept as 255, which no crew has either

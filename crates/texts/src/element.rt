@@ -3,7 +3,6 @@ ghost use Rattle.texts.specs.declared.fault.Bad.{Bad};
 ghost use Rattle.texts.specs.Lines.{Row, row};
 ghost use Rattle.texts.specs.Elements.{bundle_of, lost_of, landing_hit, landing_of};
 
-use crate::cut::same;
 use crate::fault::Bad;
 use crate::fields::Fields;
 use vocabulary::bundle::Bundle;
@@ -22,37 +21,32 @@ pub trait Element: Sized {
 impl Element for Bundle {
     ghost reads = { bundle_of };
 
-    fn read(fields: Fields<'_>) -> Result<Bundle, Bad> {
-        let mut fields = fields;
-        let field = fields.number(0, 255)?;
-        let wavelength = fields.number(0, 255)?;
-        let rays = fields.number(0, 65_535)?;
+    fn read(mut fields: Fields<'_>) -> Result<Bundle, Bad> {
+        let field = fields.byte()?;
+        let wavelength = fields.byte()?;
+        let rays = fields.number(0, 65_535)? as u16;
         fields.end()?;
         Ok(Bundle {
-            field: field as u8,
-            wavelength: wavelength as u8,
-            rays: rays as u16,
+            field,
+            wavelength,
+            rays,
         })
     }
 }
 
 // The landing of a ray that was lost, from its surface on.
-fn lost(fields: Fields<'_>) -> Result<Landing, Bad>
+fn lost(mut fields: Fields<'_>) -> Result<Landing, Bad>
     ensures { result ≡ lost_of (row fields.entry) }
 {
-    let mut fields = fields;
-    let surface = fields.number(0, 255)?;
+    let surface = fields.byte()?;
     fields.end()?;
-    Ok(Landing::Lost {
-        surface: surface as u8,
-    })
+    Ok(Landing::Lost { surface })
 }
 
 // The landing of a ray that hit the image plane, from its x on.
-fn hit(fields: Fields<'_>) -> Result<Landing, Bad>
+fn hit(mut fields: Fields<'_>) -> Result<Landing, Bad>
     ensures { result ≡ landing_hit (row fields.entry) }
 {
-    let mut fields = fields;
     let x = fields.coordinate()?;
     let y = fields.coordinate()?;
     fields.end()?;
@@ -62,16 +56,12 @@ fn hit(fields: Fields<'_>) -> Result<Landing, Bad>
 impl Element for Landing {
     ghost reads = { landing_of };
 
-    fn read(fields: Fields<'_>) -> Result<Landing, Bad> {
-        let mut fields = fields;
+    fn read(mut fields: Fields<'_>) -> Result<Landing, Bad> {
         let bad = fields.next_bad();
-        let word = fields.word()?;
-        if same(word, b"lost") {
-            return lost(fields);
+        match fields.word()? {
+            b"lost" => lost(fields),
+            b"hit" => hit(fields),
+            _ => Err(bad),
         }
-        if same(word, b"hit") {
-            return hit(fields);
-        }
-        Err(bad)
     }
 }

@@ -1,14 +1,14 @@
-ghost use Rattle.std.specs.Prelude.{◌+◌, ◌^◌, ◌≤◌, length, if◌then◌else◌};
+ghost use Rattle.std.specs.Prelude.{◌+◌, ◌^◌, ◌≤◌, length};
+ghost use Rattle.std.specs.Option.{option_map_or};
 
 // The fields of a line that are still to be handed out.
 #[derive(Clone, Copy)]
 pub struct Fields<'t> {
-    // the bytes from the next field on, if there is one
-    rest: &'t [u8],
-    more: bool,
+    // the bytes from the next field on; none, if no field is left
+    rest: Option<&'t [u8]>,
     // how many were handed out
     taken: usize,
-    ghost few: { taken + length rest.now + (if more then 1 else 0) ≤ 2 ^ 63 },
+    ghost few: { taken + option_map_or (λ r. length r.now + 1) rest 0 ≤ 2 ^ 63 },
 }
 
 mod taken;

@@ -1,19 +1,22 @@
 ghost use Rattle.std.specs.Prelude.{◌≡◌};
 ghost use Rattle.texts.specs.Numbers.{number_of, signed_by, coordinate_of};
 
+// The largest number that ten digits write.
+pub(crate) const LARGEST: u64 = 9_999_999_999;
+
 // The number that 1 to 10 decimal digits write; none of any other bytes.
 pub(crate) fn number(digits: &[u8]) -> Option<u64>
     ensures { result ≡ number_of digits.now }
 {
-    if digits.len() < 1 || digits.len() > 10 {
+    if !(1..=10).contains(&digits.len()) {
         return None;
     }
     let mut value: u64 = 0;
     for b in digits {
-        if *b < 48 || *b > 57 {
+        if !b.is_ascii_digit() {
             return None;
         }
-        value = value * 10 + (*b - 48) as u64;
+        value = value * 10 + (*b - b'0') as u64;
     }
     Some(value)
 }
@@ -39,7 +42,7 @@ pub(crate) fn coordinate(bytes: &[u8]) -> Option<i32>
     match bytes.split_first() {
         None => None,
         Some((first, digits)) => {
-            if *first == 45 {
+            if *first == b'-' {
                 signed(true, number(digits))
             } else {
                 signed(false, number(bytes))

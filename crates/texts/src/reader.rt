@@ -1,6 +1,5 @@
-ghost use Rattle.std.specs.Prelude.{◌≤◌, length};
-
 use crate::fault::TextName;
+use std::marker::Model;
 
 // A text that is read line by line, and how far it was read.
 #[derive(Drop)]
@@ -11,8 +10,18 @@ pub struct Reader<'t> {
     at: usize,
     // how many lines were handed out
     lines: usize,
-    ghost within: { at ≤ length text.now },
-    ghost counted: { lines ≤ at },
+}
+
+// A contract sees where the reader stands, and how much of the text is left.
+impl<'t> Model for Reader<'t> {
+    ghost use Rattle.std.specs.Prelude.{◌≤◌, length, drop};
+    ghost use Rattle.texts.specs.Places.{Place};
+
+    ghost Value = { Place };
+
+    ghost view = { λ r. record { name = r.name; origin = r.text.ref_ptr; total = length r.text.now; lines = r.lines; start = r.at; rest = drop r.at r.text.now } };
+
+    ghost invariant = { λ r. record { within : r.at ≤ length r.text.now; counted : r.lines ≤ r.at } };
 }
 
 // A line without its byte 10: which text's, its number, and its bytes where they stand in that text.

@@ -1,11 +1,10 @@
 ghost use Rattle.std.specs.Prelude.{◌≡◌, ◌≤◌, IfOk};
 ghost use Rattle.texts.specs.Lines.{row};
 ghost use Rattle.texts.specs.Faults.{placed};
-ghost use Rattle.texts.specs.Places.{place, opening, after_line};
+ghost use Rattle.texts.specs.Places.{opening, after_line};
 ghost use Rattle.texts.specs.Sheets.{last_number, post_line, sheet_line, kind_word, kind_line, kind_at, after_kind, sheet_line_at};
 ghost use Rattle.texts.specs.declared.fault.TextName.{TextName};
 
-use crate::cut::same;
 use crate::element::Element;
 use crate::fault::{Bad, Fault, TextName};
 use crate::fields::Fields;
@@ -26,103 +25,83 @@ pub enum SheetLine<T> {
 }
 
 // The last field of a line, as a number from `low` to `high`.
-pub(crate) fn last_number(fields: Fields<'_>, low: u64, high: u64) -> Result<u64, Bad>
+pub(crate) fn last_number(mut fields: Fields<'_>, low: u64, high: u64) -> Result<u64, Bad>
     ensures value { result ≡ last_number low high (row fields.entry) }
     ensures bound { IfOk result (λ n. n ≤ high) }
 {
-    let mut fields = fields;
     let n = fields.number(low, high)?;
     fields.end()?;
     Ok(n)
 }
 
+// The last field of a line, as a number from 0 to 255.
+fn last_byte(fields: Fields<'_>) -> Result<u8, Bad>
+    ensures { result ≡ last_number 0 255 (row fields.entry) }
+{
+    Ok(last_number(fields, 0, 255)? as u8)
+}
+
 // A post's line, from the worker on.
-fn post_line<T: Element>(fields: Fields<'_>) -> Result<SheetLine<T>, Bad>
+fn post_line<T: Element>(mut fields: Fields<'_>) -> Result<SheetLine<T>, Bad>
     ensures { result ≡ post_line T.Element.reads (row fields.entry) }
 {
-    let mut fields = fields;
-    let worker = fields.number(0, 255)?;
+    let worker = fields.byte()?;
     let element = T::read(fields)?;
-    Ok(SheetLine::Post {
-        worker: worker as u8,
-        element,
-    })
+    Ok(SheetLine::Post { worker, element })
 }
 
 // What a line of a sheet says, or its leftmost bad field.
-fn sheet_line<T: Element>(fields: Fields<'_>) -> Result<SheetLine<T>, Bad>
+fn sheet_line<T: Element>(mut fields: Fields<'_>) -> Result<SheetLine<T>, Bad>
     ensures { result ≡ sheet_line T.Element.reads (row fields.entry) }
 {
-    let mut fields = fields;
     let bad = fields.next_bad();
-    let word = fields.word()?;
-    if same(word, b"post") {
-        return post_line(fields);
+    match fields.word()? {
+        b"post" => post_line(fields),
+        b"fetch" => Ok(SheetLine::Fetch {
+            worker: last_byte(fields)?,
+        }),
+        b"step" => Ok(SheetLine::Step {
+            worker: last_byte(fields)?,
+        }),
+        b"turn" => Ok(SheetLine::Turn {
+            count: last_number(fields, 1, 1_000_000)? as u32,
+        }),
+        _ => Err(bad),
     }
-    if same(word, b"fetch") {
-        let worker = last_number(fields, 0, 255)?;
-        return Ok(SheetLine::Fetch {
-            worker: worker as u8,
-        });
-    }
-    if same(word, b"step") {
-        let worker = last_number(fields, 0, 255)?;
-        return Ok(SheetLine::Step {
-            worker: worker as u8,
-        });
-    }
-    if same(word, b"turn") {
-        let count = last_number(fields, 1, 1_000_000)?;
-        return Ok(SheetLine::Turn {
-            count: count as u32,
-        });
-    }
-    Err(bad)
 }
 
 // The kind that the second field of a sheet's first line names.
-fn kind_word(fields: Fields<'_>) -> Result<ElementKind, Bad>
+fn kind_word(mut fields: Fields<'_>) -> Result<ElementKind, Bad>
     ensures { result ≡ kind_word (row fields.entry) }
 {
-    let mut fields = fields;
     let bad = fields.next_bad();
-    let word = fields.word()?;
-    if same(word, ElementKind::Bundle.word().as_bytes()) {
-        fields.end()?;
-        return Ok(ElementKind::Bundle);
+    match fields.word()? {
+        b"bundle" => fields.end().and(Ok(ElementKind::Bundle)),
+        b"landing" => fields.end().and(Ok(ElementKind::Landing)),
+        _ => Err(bad),
     }
-    if same(word, ElementKind::Landing.word().as_bytes()) {
-        fields.end()?;
-        return Ok(ElementKind::Landing);
-    }
-    Err(bad)
 }
 
 // What a sheet's first line says: which kind of element its posts bring.
-fn kind_line(fields: Fields<'_>) -> Result<ElementKind, Bad>
+fn kind_line(mut fields: Fields<'_>) -> Result<ElementKind, Bad>
     ensures { result ≡ kind_line (row fields.entry) }
 {
-    let mut fields = fields;
-    let bad = fields.next_bad();
-    let word = fields.word()?;
-    if same(word, b"kind") {
-        return kind_word(fields);
-    }
-    Err(bad)
+    fields.keyword(b"kind")?;
+    kind_word(fields)
 }
 
 impl<'t> Reader<'t> {
     // A sheet before its first line.
     pub fn sheet(text: &'t [u8]) -> Reader<'t>
-        ensures { place result ≡ opening TextName.Sheet text.entry }
+        ensures { result ≡ opening TextName.Sheet text.entry }
     {
         Reader::of(TextName::Sheet, text)
     }
 
     // The kind of element that the sheet's next line, the first, names. The sheet's size is judged before that line.
     pub fn kind(&mut self) -> Result<ElementKind, Fault<'t>>
-        ensures value { placed result ≡ kind_at (place self.old) }
-        ensures after { place self.new ≡ after_kind (place self.old) }
+        ensures value { placed result ≡ kind_at self.old }
+        ensures after { self.new ≡ after_kind self.old }
     {
         self.size()?;
         let line = self.line()?;
@@ -131,8 +110,8 @@ impl<'t> Reader<'t> {
 
     // What the sheet's next line says, none at its end.
     pub fn next_line<T: Element>(&mut self) -> Result<Option<SheetLine<T>>, Fault<'t>>
-        ensures value { placed result ≡ sheet_line_at T.Element.reads (place self.old) }
-        ensures after { place self.new ≡ after_line (place self.old) }
+        ensures value { placed result ≡ sheet_line_at T.Element.reads self.old }
+        ensures after { self.new ≡ after_line self.old }
     {
         if self.is_read() {
             return Ok(None);

@@ -1,38 +1,30 @@
-ghost use Rattle.std.specs.Prelude.{◌≡◌, None, Ok, Err, OnErr};
+ghost use Rattle.std.specs.Prelude.{◌≡◌, None, Ok, Err};
 ghost use Rattle.vocabulary.specs.declared.refusal.Refusal.{Refusal};
 ghost use Rattle.pickers.specs.Frames.{judged};
 ghost use Rattle.texts.specs.Lines.{row};
 ghost use Rattle.texts.specs.Places.{opening};
-ghost use Rattle.texts.specs.Cards.{says, says_or, crew_or, crew_line, frame_of, frame_line, picker_word, picker_line, card_of, card_read};
+ghost use Rattle.texts.specs.Cards.{says, says_or, crew_or, crew_line, frame_of, frame_line, picker_line, card_of, card_read};
 ghost use Rattle.texts.specs.declared.fault.TextName.{TextName};
 
 use crate::card::Card;
-use crate::cut::same;
 use crate::fault::{Bad, Fault, TextName};
 use crate::fields::Fields;
+use crate::number::LARGEST;
 use crate::reader::Reader;
 use crate::sheet::last_number;
-use crate::workers::{Workers, first_foreign};
+use crate::workers::{first_foreign, named};
 use pickers::frame::Frame;
 use pickers::round::Round;
 use vocabulary::crew::Crew;
 use vocabulary::refusal::Refusal;
 
 // The crew that a card's first line names.
-fn crew_line(fields: Fields<'_>) -> Result<Crew, Bad>
+fn crew_line(mut fields: Fields<'_>) -> Result<Crew, Bad>
     ensures { crew_or result ≡ crew_line (row fields.entry) }
 {
-    let mut fields = fields;
-    let bad = fields.next_bad();
-    let word = fields.word()?;
-    if same(word, b"crew") {
-        let n = last_number(fields, 0, 9_999_999_999)?;
-        return match Crew::try_from(n) {
-            Ok(crew) => Ok(crew),
-            Err(number) => Err(Bad { field: 2, number }),
-        };
-    }
-    Err(bad)
+    fields.keyword(b"crew")?;
+    let n = last_number(fields, 0, LARGEST)?;
+    Crew::try_from(n).map_err(|number| Bad { field: 2, number })
 }
 
 // The field at which a row of workers, from field 3 on, is bad if it was refused.
@@ -40,91 +32,63 @@ fn bad_worker(n: u8, row: &[u8], number: Refusal) -> Bad
     requires { judged n row.now ≡ Err number }
     ensures { Err result ≡ frame_of n row.now }
 {
-    match number {
-        Refusal::FrameLength => {
-            if row.is_empty() {
-                Bad { field: 3, number }
-            } else {
-                Bad { field: 67, number }
-            }
-        }
-        Refusal::ForeignWorker => Bad {
-            field: 3 + first_foreign(n, row),
-            number,
-        },
-        _ => Bad { field: 2, number },
-    }
+    let field = match number {
+        Refusal::FrameLength if row.is_empty() => 3,
+        Refusal::FrameLength => 67,
+        Refusal::ForeignWorker => 3 + first_foreign(n, row),
+        _ => 2,
+    };
+    Bad { field, number }
 }
 
 // The card of a frame, from its workers on.
 fn frame_line(crew: Crew, fields: Fields<'_>) -> Result<Card, Bad>
     ensures { says_or result ≡ frame_line crew.n (row fields.entry) }
 {
-    let workers = Workers::named(fields)?;
+    let workers = named(fields)?;
+    let workers = workers.as_slice();
     let mut frame = Frame::first(crew);
-    match frame.fill(workers.row()) {
+    match frame.fill(workers) {
         Ok(()) => Ok(Card::Frame(frame)),
-        Err(number) => Err(bad_worker(crew.size(), workers.row(), number)),
+        Err(number) => Err(bad_worker(crew.size(), workers, number)),
     }
-}
-
-// The card that the second field of a card's second line begins.
-fn picker_word(crew: Crew, fields: Fields<'_>) -> Result<Card, Bad>
-    ensures { says_or result ≡ picker_word crew.n (row fields.entry) }
-{
-    let mut fields = fields;
-    let bad = fields.next_bad();
-    let word = fields.word()?;
-    if same(word, b"round") {
-        fields.end()?;
-        return Ok(Card::Round(Round::of(crew)));
-    }
-    if same(word, b"frame") {
-        return frame_line(crew, fields);
-    }
-    Err(bad)
 }
 
 // The card of a crew, by its second line.
-fn picker_line(crew: Crew, fields: Fields<'_>) -> Result<Card, Bad>
+fn picker_line(crew: Crew, mut fields: Fields<'_>) -> Result<Card, Bad>
     ensures { says_or result ≡ picker_line crew.n (row fields.entry) }
 {
-    let mut fields = fields;
+    fields.keyword(b"picker")?;
     let bad = fields.next_bad();
-    let word = fields.word()?;
-    if same(word, b"picker") {
-        return picker_word(crew, fields);
+    match fields.word()? {
+        b"round" => {
+            fields.end()?;
+            Ok(Card::of(crew))
+        }
+        b"frame" => frame_line(crew, fields),
+        _ => Err(bad),
     }
-    Err(bad)
 }
 
 impl Card {
-    // The card that is held before any was read: rounds of the crew.
+    // The card of rounds of a crew, which worker 0 begins.
     pub fn of(crew: Crew) -> Card
         ensures { says result ≡ record { crew = crew.n; row = None; next = 0 } }
     {
         Card::Round(Round::of(crew))
     }
 
-    // Reads a card in place of the one held, which stays where the text has a fault.
-    pub fn read<'t>(&mut self, text: &'t [u8]) -> Result<(), Fault<'t>>
-        ensures value { card_read result self.new ≡ card_of (opening TextName.Card text.entry) }
-        ensures same { OnErr result (self.new ≡ self.old) }
+    // The card that a text holds, or its fault.
+    pub fn read(text: &[u8]) -> Result<Card, Fault<'_>>
+        ensures { card_read result ≡ card_of (opening TextName.Card text.entry) }
     {
         let mut reader = Reader::of(TextName::Card, text);
         reader.size()?;
         let line = reader.line()?;
-        let crew = match crew_line(line.fields()) {
-            Ok(crew) => crew,
-            Err(bad) => return Err(line.fault(bad)),
-        };
+        let crew = line.judged(crew_line(line.fields()))?;
         let line = reader.line()?;
-        let card = match picker_line(crew, line.fields()) {
-            Ok(card) => card,
-            Err(bad) => return Err(line.fault(bad)),
-        };
+        let card = line.judged(picker_line(crew, line.fields()))?;
         reader.end()?;
-        *self = card;
-        Ok(())
+        Ok(card)
     }
 }

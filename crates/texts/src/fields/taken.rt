@@ -1,5 +1,5 @@
 ghost use Rattle.std.specs.Prelude.{◌≡◌, ◌≤◌, IfOk};
-ghost use Rattle.texts.specs.Lines.{row, row_of, next_row, bad_row, word_at, number_at, coordinate_at, end_at, bare, no_fields};
+ghost use Rattle.texts.specs.Lines.{row, row_of, next_row, bad_row, word_at, keyword_at, number_at, coordinate_at, end_at, bare, no_fields};
 
 use crate::cut::length_before;
 use crate::fault::Bad;
@@ -13,8 +13,7 @@ impl<'t> Fields<'t> {
         ensures { row result ≡ row_of line.now }
     {
         Fields {
-            rest: line,
-            more: true,
+            rest: Some(line),
             taken: 0,
         }
     }
@@ -34,20 +33,24 @@ impl<'t> Fields<'t> {
         ensures value { bare result ≡ word_at (row self.old) }
         ensures after { row self.new ≡ next_row (row self.old) }
     {
-        if !self.more {
-            return Err(self.next_bad());
-        }
-        let rest = self.rest;
-        let n = length_before(rest, 9);
-        let (field, tail) = rest.split_at(n);
-        if n < rest.len() {
-            self.rest = &tail[1..];
-        } else {
-            self.rest = tail;
-            self.more = false;
-        }
+        let bad = self.next_bad();
+        let rest = self.rest.ok_or(bad)?;
+        let n = length_before(rest, b'\t');
+        self.rest = rest.get(n + 1..);
         self.taken += 1;
-        Ok(field)
+        Ok(&rest[..n])
+    }
+
+    // That the next field is this word.
+    pub(crate) fn keyword(&mut self, word: &[u8]) -> Result<(), Bad>
+        ensures value { result ≡ keyword_at word.now (row self.old) }
+        ensures after { row self.new ≡ next_row (row self.old) }
+    {
+        let bad = self.next_bad();
+        if self.word()? == word {
+            return Ok(());
+        }
+        Err(bad)
     }
 
     // The next field as a number from `low` to `high`.
@@ -58,10 +61,17 @@ impl<'t> Fields<'t> {
     {
         let bad = self.next_bad();
         let field = self.word()?;
-        match number(field) {
-            Some(n) if low <= n && n <= high => Ok(n),
-            _ => Err(bad),
-        }
+        number(field)
+            .filter(|n| (low..=high).contains(n))
+            .ok_or(bad)
+    }
+
+    // The next field as a number from 0 to 255.
+    pub(crate) fn byte(&mut self) -> Result<u8, Bad>
+        ensures value { result ≡ number_at 0 255 (row self.old) }
+        ensures after { row self.new ≡ next_row (row self.old) }
+    {
+        Ok(self.number(0, 255)? as u8)
     }
 
     // The next field as a coordinate of a hit.
@@ -71,26 +81,23 @@ impl<'t> Fields<'t> {
     {
         let bad = self.next_bad();
         let field = self.word()?;
-        match coordinate(field) {
-            Some(c) => Ok(c),
-            None => Err(bad),
-        }
+        coordinate(field).ok_or(bad)
     }
 
     // Whether no field is left.
     pub(crate) fn is_empty(&self) -> bool
         ensures { result ≡ no_fields (row self.now).left }
     {
-        !self.more
+        self.rest.is_none()
     }
 
     // That no field is left. The first that is left is a fault.
     pub(crate) fn end(&self) -> Result<(), Bad>
         ensures { result ≡ end_at (row self.now) }
     {
-        if self.more {
-            return Err(self.next_bad());
+        if self.is_empty() {
+            return Ok(());
         }
-        Ok(())
+        Err(self.next_bad())
     }
 }

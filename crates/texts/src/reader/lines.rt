@@ -1,7 +1,7 @@
 ghost use Rattle.std.specs.Prelude.{◌≡◌};
 ghost use Rattle.texts.specs.Lines.{row, row_of};
 ghost use Rattle.texts.specs.Faults.{spot_of, placed};
-ghost use Rattle.texts.specs.Places.{place, opening, line_spot, lined, bad_line, whole_line, line_at, after_line, end_of_text, size_of, judged_line, all_read};
+ghost use Rattle.texts.specs.Places.{opening, line_spot, lined, bad_line, whole_line, line_at, after_line, end_of_text, size_of, judged_line, all_read};
 
 use crate::cut::length_before;
 use crate::fault::{Bad, Fault, TextName};
@@ -53,7 +53,7 @@ impl<'t> Line<'t> {
 impl<'t> Reader<'t> {
     // A text before its first line.
     pub(crate) fn of(name: TextName, text: &'t [u8]) -> Reader<'t>
-        ensures { place result ≡ opening name text.entry }
+        ensures { result ≡ opening name text.entry }
     {
         Reader {
             name,
@@ -65,7 +65,7 @@ impl<'t> Reader<'t> {
 
     // That the text is not too long. A text that is too long is bad at line 0, field 0.
     pub(crate) fn size(&self) -> Result<(), Fault<'t>>
-        ensures { placed result ≡ size_of (place self.now) }
+        ensures { placed result ≡ size_of self.now }
     {
         if self.text.len() > LONGEST {
             return Err(Fault {
@@ -81,29 +81,27 @@ impl<'t> Reader<'t> {
 
     // Whether no line is left.
     pub(crate) fn is_read(&self) -> bool
-        ensures { result ≡ all_read (place self.now).rest }
+        ensures { result ≡ all_read self.now.rest }
     {
         self.at == self.text.len()
     }
 
     // The next line as it stands, ended or not; at the text's end an empty one.
     fn whole_line(&self) -> Line<'t>
-        ensures { line_spot result ≡ whole_line (place self.now) }
+        ensures { line_spot result ≡ whole_line self.now }
     {
-        let text = self.text;
-        let (_, rest) = text.split_at(self.at);
-        let n = length_before(rest, 10);
+        let rest = &self.text[self.at..];
         Line {
             text: self.name,
             number: self.lines + 1,
-            bytes: &text[self.at..self.at + n],
+            bytes: &rest[..length_before(rest, b'\n')],
         }
     }
 
     // The next line. It is a fault if there is none, or if it has no byte 10 at its end; the reader then stays.
     pub(crate) fn line(&mut self) -> Result<Line<'t>, Fault<'t>>
-        ensures value { lined result ≡ line_at (place self.old) }
-        ensures after { place self.new ≡ after_line (place self.old) }
+        ensures value { lined result ≡ line_at self.old }
+        ensures after { self.new ≡ after_line self.old }
     {
         let line = self.whole_line();
         let end = self.at + line.bytes.len();
@@ -117,7 +115,7 @@ impl<'t> Reader<'t> {
 
     // That no line is left. A surplus line is a fault.
     pub(crate) fn end(&self) -> Result<(), Fault<'t>>
-        ensures { placed result ≡ end_of_text (place self.now) }
+        ensures { placed result ≡ end_of_text self.now }
     {
         if self.is_read() {
             return Ok(());

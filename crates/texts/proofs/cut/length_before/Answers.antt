@@ -1,21 +1,13 @@
--- The bytes passed and those before the separator in what is left make those before it in the whole.
-use Rattle.std.proofs.Common.{◌≡◌, length, drop, arith}
-use Rattle.std.proofs.lemmas.List.{at_drop_all}
-use Rattle.texts.specs.Cuts.{before}
-use Rattle.texts.proofs.CutLaws.{length-before-more, length-before-none}
+-- The place of the first separator is the length of what is before it.
+use Rattle.std.proofs.Common.{eqb, ◌∙◌, rules}
+use Rattle.std.proofs.lemmas.Iterator.{YieldsList-from_slice}
+use Rattle.std.proofs.lemmas.Iterator.Search.{position_from_yields_List}
+use borrow.Author.Tests.{tests}
+use Rattle.texts.proofs.CutLaws.{before-place}
 use Rattle.texts.proofs.cut.length_before.Goals as goal
 
-pub returns-then-b-separator : goal.returns-then-b-separator
-returns-then-b-separator c =
-    let e = length-before-none c.args.separator c.args.bytes.now c.loop-i.i (omega arith) c.if-b-separator.true in
-    record { value = omega arith; bound = omega arith }
-
-pub loop-i-preserved : goal.loop-i-preserved
-loop-i-preserved c =
-    let e = length-before-more c.args.separator c.args.bytes.now c.loop-i.i (omega arith) c.if-b-separator.false in
-    omega arith
-
-pub returns : goal.returns
-returns c =
-    let e : length (before c.args.separator (drop c.loop-i.i c.args.bytes.now)) ≡ 0 = at_drop_all (λ ys. length (before c.args.separator ys)) c.args.bytes.now c.loop-i.i (omega arith) in
-    record { value = omega arith; bound = omega arith }
+pub returns-clause-value : goal.returns-clause-value
+returns-clause-value c =
+    let xs = c.args.bytes.now in
+    let place = position_from_yields_List (λ b. eqb b c.args.separator) _ _ c.position.result c.position.ensures.ran (YieldsList-from_slice xs cc) (λ x b q k. search (rules, tests)) in
+    c.unwrap_or.ensures ∙ before-place c.args.separator xs c.position.result place

@@ -3,4 +3,4 @@ use Rattle.texts.proofs.RowLaws.{row-empty}
 use Rattle.texts.proofs.fields.Fields.is_empty.Goals as goal
 
 pub returns : goal.returns
-returns c = row-empty c.args.self.now.more c.args.self.now.rest.now
+returns c = row-empty c.args.self.now.rest c.is_none.result c.is_none.ensures

@@ -7,34 +7,38 @@ use Rattle.texts.proofs.reader.Reader.line.Goals as goal
 
 pub returns-then-end-self : goal.returns-then-end-self
 returns-then-end-self c =
-    let self = c.args.self.now in
-    let xs = self.text.now in
-    let here : length c.whole_line-line.result.bytes.now ≡ length (before 10 (drop self.at xs)) = ap (λ l. length l.bytes) c.whole_line-line.ensures in
-    let no_end = line-unended xs self.at (length c.whole_line-line.result.bytes.now) here (omega arith) in
-    record {
-      value = rw no_end (ap Err (c.fault.ensures ∙ ap (λ l. bad_line l first_field) c.whole_line-line.ensures));
+    let xs = c.self.inside.text.now in
+    let at = c.self.inside.at in
+    let line = rw (← c.self.view_is) at c.whole_line-line.ensures in
+    let here : length c.whole_line-line.result.bytes.now ≡ length (before 10 (drop at xs)) = ap (λ l. length l.bytes) line in
+    let no_end = line-unended xs at (length c.whole_line-line.result.bytes.now) here (omega arith) in
+    rw (← c.self.view_is) (record {
+      value = rw no_end (ap Err (c.fault.ensures ∙ ap (λ l. bad_line l first_field) line));
       after = rw no_end refl;
-    }
+    })
 
 pub invariant_of-self : goal.invariant_of-self
 invariant_of-self c =
-    let self = c.args.self.now in
-    let xs = self.text.now in
-    let here : length c.whole_line-line.result.bytes.now ≡ length (before 10 (drop self.at xs)) = ap (λ l. length l.bytes) c.whole_line-line.ensures in
-    let l = line-within xs self.at (length c.whole_line-line.result.bytes.now) here self.within in
+    let xs = c.self.inside.text.now in
+    let at = c.self.inside.at in
+    let n = length c.whole_line-line.result.bytes.now in
+    let line = rw (← c.self.view_is) at c.whole_line-line.ensures in
+    let here : length c.whole_line-line.result.bytes.now ≡ length (before 10 (drop at xs)) = ap (λ l. length l.bytes) line in
+    let l = line-within xs at n here c.self.invariant.within in
     let ne = c.if-end-self.false in
-    record { within = grind arith; counted = omega (arith, self.counted) }
+    record { within = grind arith; counted = omega (arith, c.self.invariant.counted) }
 
 pub returns : goal.returns
 returns c =
-    let self = c.args.self.now in
-    let xs = self.text.now in
+    let xs = c.self.inside.text.now in
+    let at = c.self.inside.at in
     let n = length c.whole_line-line.result.bytes.now in
-    let here : length c.whole_line-line.result.bytes.now ≡ length (before 10 (drop self.at xs)) = ap (λ l. length l.bytes) c.whole_line-line.ensures in
-    let l = line-within xs self.at n here self.within in
+    let line = rw (← c.self.view_is) at c.whole_line-line.ensures in
+    let here : length c.whole_line-line.result.bytes.now ≡ length (before 10 (drop at xs)) = ap (λ l. length l.bytes) line in
+    let l = line-within xs at n here c.self.invariant.within in
     let ne = c.if-end-self.false in
-    let ended = line-ended xs self.at n here (grind arith) in
-    record {
-      value = rw ended (ap Ok c.whole_line-line.ensures);
-      after = rw (ended, ← here, rest-after xs self.at n here) refl;
-    }
+    let ended = line-ended xs at n here (grind arith) in
+    rw (← c.self.view_is) (record {
+      value = rw ended (ap Ok line);
+      after = rw (ended, ← here, rest-after xs at n here) refl;
+    })
