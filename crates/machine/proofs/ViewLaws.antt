@@ -39,12 +39,15 @@ module _ (q : Queue) where
       let p = view-set (λ x. x.poster) q.nodes j n blank_node l in
       rw (s, t, p) refl
 
-  pub successor-exchanged : (i j : ℕ) (to x : Option ℕ) (a : Access) → a ≡ Access.ExchangeSuccessor j to → i ≡ j → j < length q.nodes → x ≡ (if option_eq nat_eq ((memory_of q).successor i) None then to else (memory_of q).successor i) → memory_of (record q { nodes = set q.nodes i (record (get_or q.nodes i blank_node) { successor = x }) }) ≡ left_by (memory_of q) a
-  successor-exchanged i j to x a at is l e =
-      rw (at, is, node-written j (record (get_or q.nodes j blank_node) { successor = x }) l, put-kept (memory_of q).taker j, put-kept (memory_of q).poster j)
-      (exchanged (λ f. record (memory_of q) { successor = f }) (memory_of q).successor j to x _ refl (rw is at e))
+  pub successor-exchanged : (j : ℕ) (to x : Option ℕ) → j < length q.nodes → x ≡ (if option_eq nat_eq ((memory_of q).successor j) None then to else (memory_of q).successor j) → memory_of (record q { nodes = set q.nodes j (record (get_or q.nodes j blank_node) { successor = x }) }) ≡ left_by (memory_of q) (Access.ExchangeSuccessor j to)
+  successor-exchanged j to x l e =
+      rw (node-written j (record (get_or q.nodes j blank_node) { successor = x }) l, put-kept (memory_of q).taker j, put-kept (memory_of q).poster j)
+      (exchanged (λ f. record (memory_of q) { successor = f }) (memory_of q).successor j to x _ refl e)
 
-  pub taker-exchanged : (i j k : ℕ) (x : Option ℕ) (a : Access) → a ≡ Access.ExchangeTaker j k → i ≡ j → j < length q.nodes → x ≡ (if option_eq nat_eq ((memory_of q).taker i) None then Some k else (memory_of q).taker i) → memory_of (record q { nodes = set q.nodes i (record (get_or q.nodes i blank_node) { taker = x }) }) ≡ left_by (memory_of q) a
-  taker-exchanged i j k x a at is l e =
-      rw (at, is, node-written j (record (get_or q.nodes j blank_node) { taker = x }) l, put-kept (memory_of q).successor j, put-kept (memory_of q).poster j)
-      (exchanged (λ f. record (memory_of q) { taker = f }) (memory_of q).taker j (Some k) x _ refl (rw is at e))
+  pub taker-exchanged : (j k : ℕ) (x : Option ℕ) → j < length q.nodes → x ≡ (if option_eq nat_eq ((memory_of q).taker j) None then Some k else (memory_of q).taker j) → memory_of (record q { nodes = set q.nodes j (record (get_or q.nodes j blank_node) { taker = x }) }) ≡ left_by (memory_of q) (Access.ExchangeTaker j k)
+  taker-exchanged j k x l e =
+      rw (node-written j (record (get_or q.nodes j blank_node) { taker = x }) l, put-kept (memory_of q).successor j, put-kept (memory_of q).poster j)
+      (exchanged (λ f. record (memory_of q) { taker = f }) (memory_of q).taker j (Some k) x _ refl e)
+
+-- what an access that writes a table leaves
+pub ruleset table_writes = (entry-written, successor-exchanged, taker-exchanged)

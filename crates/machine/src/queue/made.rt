@@ -22,6 +22,7 @@ fn compare_exchange<T: Copy + PartialEq>(place: &mut T, expected: T, new: T) -> 
 
 impl Queue {
     // Writes an entry, which counts whatever is written.
+    #[tactic(auto, using(crate::proofs::ViewLaws::table_writes))]
     fn write_entry(&mut self, k: u8, descriptor: Descriptor)
         requires { EntryFits self.old k }
         ensures { memory_of self.new ≡ with_entry (memory_of self.old) k descriptor }
@@ -45,6 +46,7 @@ impl Queue {
     }
 
     // Makes one access, in place.
+    #[tactic(auto, using(crate::proofs::ViewLaws::table_writes))]
     pub(crate) fn make(&mut self, access: Access) -> Seen
         requires { Fitting self.old access }
         ensures seen { result ≡ seen_by (memory_of self.old) access }
