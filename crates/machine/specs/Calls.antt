@@ -61,7 +61,7 @@ pub record Played (T : Type 0) : Type 0 where
   pub event : Event T
 
 abbrev pub with_state : {T : Type 0} → Run T → State T → Run T
-with_state r s = record { state = s; nodes = r.nodes; used = r.used }
+with_state r s = record r { state = s }
 
 -- a refused call changes nothing
 abbrev pub or_else : {T : Type 0} → Run T → Call T → Option Refusal → Played T → Played T
@@ -77,7 +77,7 @@ stepped r c w = record { run = with_state r (stepping r.state w); event = record
 
 -- a call by a picker of a crew of c, which would name the worker v if it were asked. Only an accepted turn asks it
 abbrev pub played : {T : Type 0} → Run T → ℕ → ℕ → Call T → Played T
-played r c v (Call.Post w x) = or_else r (Call.Post w x) (post_refusal r w) (accepted (record { state = posting r.state w x (lowest_free r); nodes = r.nodes; used = r.used + 1 }) (Call.Post w x))
+played r c v (Call.Post w x) = or_else r (Call.Post w x) (post_refusal r w) (accepted (record r { state = posting r.state w x (lowest_free r); used = r.used + 1 }) (Call.Post w x))
 played r c v (Call.Fetch w) = or_else r (Call.Fetch w) (fetch_refusal r w) (accepted (with_state r (fetching r.state w)) (Call.Fetch w))
 played r c v (Call.Step w) = or_else r (Call.Step w) (step_refusal r w) (stepped r (Call.Step w) w)
 played r c v Call.Turn = or_else r Call.Turn (turn_refusal r c) (stepped r Call.Turn v)

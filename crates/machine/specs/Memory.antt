@@ -41,20 +41,20 @@ seen_by m (Access.ExchangeTaker j k) = Seen.Held (is_none (m.taker j))
 
 -- the memory with one thing written
 abbrev pub with_head : Memory → ℕ → Memory
-with_head m x = record { head = x; tail = m.tail; successor = m.successor; taker = m.taker; entry = m.entry; poster = m.poster }
+with_head m x = record m { head = x }
 
 abbrev pub with_tail : Memory → ℕ → Memory
-with_tail m x = record { head = m.head; tail = x; successor = m.successor; taker = m.taker; entry = m.entry; poster = m.poster }
+with_tail m x = record m { tail = x }
 
 abbrev pub with_successor : Memory → ℕ → Option ℕ → Memory
-with_successor m j to = record { head = m.head; tail = m.tail; successor = put m.successor j to; taker = m.taker; entry = m.entry; poster = m.poster }
+with_successor m j to = record m { successor = put m.successor j to }
 
 abbrev pub with_taker : Memory → ℕ → ℕ → Memory
-with_taker m j k = record { head = m.head; tail = m.tail; successor = m.successor; taker = put m.taker j (Some k); entry = m.entry; poster = m.poster }
+with_taker m j k = record m { taker = put m.taker j (Some k) }
 
 -- a writing of an entry counts, whatever it writes
 abbrev pub with_entry : Memory → ℕ → Descriptor → Memory
-with_entry m k d = record { head = m.head; tail = m.tail; successor = m.successor; taker = m.taker; entry = put m.entry k (record { descriptor = d; count = (m.entry k).count + 1 }); poster = m.poster }
+with_entry m k d = record m { entry = put m.entry k (record { descriptor = d; count = (m.entry k).count + 1 }) }
 
 -- what an access leaves: reads change nothing, and an exchange that does not hold neither
 abbrev pub left_by : Memory → Access → Memory

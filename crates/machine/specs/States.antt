@@ -43,10 +43,10 @@ opened n = record { crew = n; steps = 0; memory = record { head = 0; tail = 0; s
 
 -- the worker w places a post of x with the node j, or a fetch
 abbrev pub posting : {T : Type 0} → State T → ℕ → T → ℕ → State T
-posting s w x j = record { crew = s.crew; steps = s.steps; memory = record { head = s.memory.head; tail = s.memory.tail; successor = s.memory.successor; taker = s.memory.taker; entry = s.memory.entry; poster = put s.memory.poster j w }; worker = put s.worker w (beginning (Stage.Order OrderStage.Scan) OrderKind.Post (Some j)); placing = put s.placing w s.steps; point = put s.point w None; element = put s.element j (Some x) }
+posting s w x j = record s { memory = record s.memory { poster = put s.memory.poster j w }; worker = put s.worker w (beginning (Stage.Order OrderStage.Scan) OrderKind.Post (Some j)); placing = put s.placing w s.steps; point = put s.point w None; element = put s.element j (Some x) }
 
 abbrev pub fetching : {T : Type 0} → State T → ℕ → State T
-fetching s w = record { crew = s.crew; steps = s.steps; memory = s.memory; worker = put s.worker w (beginning (Stage.Order OrderStage.Scan) OrderKind.Fetch None); placing = put s.placing w s.steps; point = put s.point w None; element = s.element }
+fetching s w = record s { worker = put s.worker w (beginning (Stage.Order OrderStage.Scan) OrderKind.Fetch None); placing = put s.placing w s.steps; point = put s.point w None }
 
 -- a point goes to its worker's order
 abbrev pub point_after : Outcome → (ℕ → Option Given) → ℕ → Option Given
@@ -60,7 +60,7 @@ abbrev pub advanced : {T : Type 0} → State T → ℕ → Advanced
 advanced s w = advance_of s.crew (s.steps + 1) (s.worker w) (seen_by s.memory (access_of s.memory.poster w (s.worker w)))
 
 abbrev pub counted : {T : Type 0} → State T → ℕ → Advanced → State T
-counted s w a = record { crew = s.crew; steps = s.steps + 1; memory = left_by s.memory (access_of s.memory.poster w (s.worker w)); worker = put s.worker w a.worker; placing = s.placing; point = point_after a.outcome s.point; element = s.element }
+counted s w a = record s { steps = s.steps + 1; memory = left_by s.memory (access_of s.memory.poster w (s.worker w)); worker = put s.worker w a.worker; point = point_after a.outcome s.point }
 
 -- an idle step is not counted and changes nothing
 abbrev pub after_step : {T : Type 0} → State T → ℕ → Advanced → Outcome → State T

@@ -7,5 +7,6 @@ pub mod entry;
 pub mod node;
 pub mod queue;
 pub mod stage;
+pub mod step;
 pub mod worked_runs;
 pub mod worker;

@@ -1,6 +1,7 @@
-// Which access a worker makes next, by its stage.
+// Which access a worker makes next, by its stage. A register that names a node or a worker is known to have one by then;
+// without one, 0 stands for it.
 ghost use Rattle.std.specs.Prelude.{◌≡◌};
-ghost use Rattle.machine.specs.Accesses.{named, order_access, finish_enq_access, finish_deq_access, help_enq_access, help_deq_access, empty_access, take_access, access_of};
+ghost use Rattle.machine.specs.Accesses.{order_access, finish_enq_access, finish_deq_access, help_enq_access, help_deq_access, empty_access, take_access, access_of};
 ghost use Rattle.machine.specs.Queues.{memory_of};
 
 use crate::access::Access;
@@ -11,16 +12,6 @@ use crate::stage::{
     TakeStage,
 };
 use crate::worker::Worker;
-
-// The node or worker in a register that is known to have one.
-fn named(register: Option<u8>) -> u8
-    ensures { result ≡ named register }
-{
-    match register {
-        Some(x) => x,
-        None => 0,
-    }
-}
 
 impl Worker {
     // An order's own access; w is the worker's own number.
@@ -39,7 +30,7 @@ impl Worker {
                 Access::WriteEntry(w, descriptor)
             }
             OrderStage::Recall => Access::ReadEntry(w),
-            OrderStage::Follow => Access::ReadSuccessor(named(self.node)),
+            OrderStage::Follow => Access::ReadSuccessor(self.node.unwrap_or(0)),
         }
     }
 
@@ -52,16 +43,15 @@ impl Worker {
             FinishEnqStage::E2 => Access::ReadSuccessor(self.tail),
             FinishEnqStage::E3 | FinishEnqStage::E5 | FinishEnqStage::E6 => Access::ReadEntry(k),
             FinishEnqStage::E7 => {
-                let phase = self.kept_phase;
                 let descriptor = Descriptor {
-                    phase,
+                    phase: self.kept_phase,
                     pending: false,
                     kind: OrderKind::Post,
                     node: self.next,
                 };
                 Access::ExchangeEntry(k, self.saved, descriptor)
             }
-            FinishEnqStage::E8 => Access::ExchangeTail(self.tail, named(self.next)),
+            FinishEnqStage::E8 => Access::ExchangeTail(self.tail, self.next.unwrap_or(0)),
         }
     }
 
@@ -75,16 +65,15 @@ impl Worker {
             FinishDeqStage::D3 => Access::ReadTaker(self.head),
             FinishDeqStage::D4 | FinishDeqStage::D6 | FinishDeqStage::D7 => Access::ReadEntry(k),
             FinishDeqStage::D8 => {
-                let phase = self.kept_phase;
                 let descriptor = Descriptor {
-                    phase,
+                    phase: self.kept_phase,
                     pending: false,
                     kind: OrderKind::Fetch,
                     node: self.node,
                 };
                 Access::ExchangeEntry(k, self.saved, descriptor)
             }
-            FinishDeqStage::D9 => Access::ExchangeHead(self.head, named(self.next)),
+            FinishDeqStage::D9 => Access::ExchangeHead(self.head, self.next.unwrap_or(0)),
         }
     }
 
@@ -119,9 +108,8 @@ impl Worker {
         match at {
             EmptyStage::T6 => Access::ReadTail,
             EmptyStage::T8 => {
-                let phase = self.kept_phase;
                 let descriptor = Descriptor {
-                    phase,
+                    phase: self.kept_phase,
                     pending: false,
                     kind: OrderKind::Fetch,
                     node: None,
@@ -139,9 +127,8 @@ impl Worker {
         match at {
             TakeStage::T10 => Access::ReadHead,
             TakeStage::T12 => {
-                let phase = self.kept_phase;
                 let descriptor = Descriptor {
-                    phase,
+                    phase: self.kept_phase,
                     pending: true,
                     kind: OrderKind::Fetch,
                     node: Some(self.head),
@@ -161,10 +148,10 @@ impl Worker {
             Stage::Idle => Access::None,
             Stage::Order(at) => self.order_access(w, at),
             Stage::FinishEnq(at, _) => {
-                let x = named(self.next);
-                self.finish_enq_access(queue.nodes[x as usize].poster, at)
+                let x = self.next.unwrap_or(0);
+                self.finish_enq_access(queue.nodes[usize::from(x)].poster, at)
             }
-            Stage::FinishDeq(at, _) => self.finish_deq_access(named(self.taker), at),
+            Stage::FinishDeq(at, _) => self.finish_deq_access(self.taker.unwrap_or(0), at),
             Stage::HelpEnq(at) => self.help_enq_access(at),
             Stage::HelpDeq(at) => self.help_deq_access(at),
             Stage::Empty(at) => self.empty_access(at),

@@ -1,40 +1,21 @@
 // How a worker advances, by its stage and what its access saw. Where an access of another kind is handed in, it stays.
 ghost use Rattle.std.specs.Prelude.{◌≡◌, ◌+◌, ◌^◌, ◌<◌, nat_lt};
-ghost use Rattle.machine.specs.Advances.{same_node, is_node, next_worker, finished_enq, finished_deq, answered, scanned, phase_seen, order_advance, finish_enq_advance, finish_deq_advance};
+ghost use Rattle.machine.specs.Advances.{next_worker, finished_enq, finished_deq, answered, scanned, phase_seen, order_advance, finish_enq_advance, finish_deq_advance};
 
 use crate::access::{Outcome, Seen};
 use crate::entry::OrderKind;
 use crate::stage::{
     FinishDeqStage, FinishEnqStage, HelpDeqStage, HelpEnqStage, OrderStage, Return, Stage,
 };
+use crate::step::Step;
 use crate::worker::Worker;
-
-// Whether an optional node is this one.
-pub(crate) fn is_node(node: Option<u8>, x: u8) -> bool
-    ensures { result ≡ is_node node x }
-{
-    match node {
-        Some(m) => m == x,
-        None => false,
-    }
-}
-
-// Whether two optional nodes are one node.
-fn same_node(node: Option<u8>, other: Option<u8>) -> bool
-    ensures { result ≡ same_node node other }
-{
-    match other {
-        Some(x) => is_node(node, x),
-        None => false,
-    }
-}
 
 impl Worker {
     // Whether a worker of the crew comes after the one of the loop's index.
     fn has_next(&self, n: u8) -> bool
         ensures { result ≡ nat_lt (self.now.index + 1) n }
     {
-        (self.index as u16) + 1 < n as u16
+        u16::from(self.index) + 1 < u16::from(n)
     }
 
     // On to the next worker of the loop, or out of it to the order's end.
@@ -52,6 +33,14 @@ impl Worker {
         }
     }
 
+    // The order is answered, with the element of a node or with none.
+    fn answered(&mut self, node: Option<u8>) -> Outcome
+        ensures { record { worker = self.new; outcome = result } ≡ answered self.old node }
+    {
+        self.stage = Stage::Idle;
+        Outcome::Answered { node }
+    }
+
     // The end of help_finish_enq.
     fn finished_enq(&mut self, n: u8, then: Return) -> Outcome
         ensures { record { worker = self.new; outcome = result } ≡ finished_enq n self.old then }
@@ -60,10 +49,7 @@ impl Worker {
             Return::HelpEnq => self.stage = Stage::HelpEnq(HelpEnqStage::C1),
             Return::HelpDeq => self.stage = Stage::HelpDeq(HelpDeqStage::C1),
             Return::NextWorker => self.next_worker(n),
-            Return::End => {
-                self.stage = Stage::Idle;
-                return Outcome::Answered { node: None };
-            }
+            Return::End => return self.answered(None),
         }
         Outcome::Worked
     }
@@ -82,87 +68,67 @@ impl Worker {
     }
 
     // Advances in help_finish_enq.
-    pub(crate) fn finish_enq(
-        &mut self,
-        n: u8,
-        at: FinishEnqStage,
-        then: Return,
-        seen: Seen,
-    ) -> Outcome
-        ensures { record { worker = self.new; outcome = result } ≡ finish_enq_advance n self.old seen then at }
+    pub(crate) fn finish_enq(&mut self, step: Step, at: FinishEnqStage, then: Return) -> Outcome
+        ensures { record { worker = self.new; outcome = result } ≡ finish_enq_advance step.n self.old step.seen then at }
     {
         use crate::stage::FinishEnqStage::*;
-        match (at, seen) {
+        match (at, step.seen) {
             (E1, Seen::Place(l)) => self.read_tail(l, Stage::FinishEnq(E2, then)),
             (E2, Seen::Link(x)) => {
                 self.read_next(x, Stage::FinishEnq(E3, then));
                 if x.is_none() {
-                    return self.finished_enq(n, then);
+                    return self.finished_enq(step.n, then);
                 }
             }
             (E3, Seen::Entry(e)) => self.save_count(e.count, Stage::FinishEnq(E4, then)),
             (E4, Seen::Place(l)) => {
                 if l != self.tail {
-                    return self.finished_enq(n, then);
+                    return self.finished_enq(step.n, then);
                 }
                 self.stage = Stage::FinishEnq(E5, then);
             }
             (E5, Seen::Entry(e)) => {
-                if !same_node(e.descriptor.node, self.next) {
-                    return self.finished_enq(n, then);
+                if self.next.is_none() || e.descriptor.node != self.next {
+                    return self.finished_enq(step.n, then);
                 }
                 self.stage = Stage::FinishEnq(E6, then);
             }
             (E6, Seen::Entry(e)) => self.keep_phase(e.descriptor.phase, Stage::FinishEnq(E7, then)),
             (E7, Seen::Held(_)) => self.stage = Stage::FinishEnq(E8, then),
-            (E8, Seen::Held(_)) => return self.finished_enq(n, then),
+            (E8, Seen::Held(_)) => return self.finished_enq(step.n, then),
             _ => {}
         }
         Outcome::Worked
     }
 
     // Advances in help_finish_deq.
-    pub(crate) fn finish_deq(
-        &mut self,
-        n: u8,
-        at: FinishDeqStage,
-        then: Return,
-        seen: Seen,
-    ) -> Outcome
-        ensures { record { worker = self.new; outcome = result } ≡ finish_deq_advance n self.old seen then at }
+    pub(crate) fn finish_deq(&mut self, step: Step, at: FinishDeqStage, then: Return) -> Outcome
+        ensures { record { worker = self.new; outcome = result } ≡ finish_deq_advance step.n self.old step.seen then at }
     {
         use crate::stage::FinishDeqStage::*;
-        match (at, seen) {
+        match (at, step.seen) {
             (D1, Seen::Place(h)) => self.read_head(h, Stage::FinishDeq(D2, then)),
             (D2, Seen::Link(x)) => self.read_next(x, Stage::FinishDeq(D3, then)),
             (D3, Seen::Link(k)) => {
                 self.read_taker(k, Stage::FinishDeq(D4, then));
                 if k.is_none() {
-                    return self.finished_deq(n, then);
+                    return self.finished_deq(step.n, then);
                 }
             }
             (D4, Seen::Entry(e)) => self.save_count(e.count, Stage::FinishDeq(D5, then)),
             (D5, Seen::Place(h)) => {
                 if h != self.head || self.next.is_none() {
-                    return self.finished_deq(n, then);
+                    return self.finished_deq(step.n, then);
                 }
                 self.stage = Stage::FinishDeq(D6, then);
             }
             (D6, Seen::Entry(e)) => self.keep_phase(e.descriptor.phase, Stage::FinishDeq(D7, then)),
             (D7, Seen::Entry(e)) => self.read_node(e.descriptor.node, Stage::FinishDeq(D8, then)),
             (D8, Seen::Held(_)) => self.stage = Stage::FinishDeq(D9, then),
-            (D9, Seen::Held(_)) => return self.finished_deq(n, then),
+            (D9, Seen::Held(_)) => return self.finished_deq(step.n, then),
             _ => {}
         }
         Outcome::Worked
-    }
-
-    // The order is answered, with the element of a node or with none.
-    fn answered(&mut self, node: Option<u8>) -> Outcome
-        ensures { record { worker = self.new; outcome = result } ≡ answered self.old node }
-    {
-        self.stage = Stage::Idle;
-        Outcome::Answered { node }
     }
 
     // Reads the next entry for the largest phase; after the last, its own phase is one above.
@@ -183,12 +149,12 @@ impl Worker {
     }
 
     // Advances in what an order does for itself. Phases are far below the bound: they are at most the steps counted.
-    pub(crate) fn order(&mut self, n: u8, at: OrderStage, seen: Seen) -> Outcome
-        requires { (self.old.phase < 2 ^ 31) × (phase_seen seen < 2 ^ 31) }
-        ensures { record { worker = self.new; outcome = result } ≡ order_advance n self.old seen at }
+    pub(crate) fn order(&mut self, step: Step, at: OrderStage) -> Outcome
+        requires { (self.old.phase < 2 ^ 31) × (phase_seen step.seen < 2 ^ 31) }
+        ensures { record { worker = self.new; outcome = result } ≡ order_advance step.n self.old step.seen at }
     {
-        match (at, seen) {
-            (OrderStage::Scan, Seen::Entry(entry)) => self.scanned(n, entry.descriptor.phase),
+        match (at, step.seen) {
+            (OrderStage::Scan, Seen::Entry(entry)) => self.scanned(step.n, entry.descriptor.phase),
             (OrderStage::Announce, _) => self.stage = Stage::Order(OrderStage::Look),
             (OrderStage::Look, Seen::Entry(entry)) => {
                 if entry.descriptor.pending && entry.descriptor.phase <= self.phase {
@@ -197,15 +163,14 @@ impl Worker {
                         OrderKind::Fetch => Stage::HelpDeq(HelpDeqStage::C1),
                     };
                 } else {
-                    self.next_worker(n);
+                    self.next_worker(step.n);
                 }
             }
             (OrderStage::Recall, Seen::Entry(entry)) => {
                 if entry.descriptor.node.is_none() {
                     return self.answered(None);
                 }
-                self.node = entry.descriptor.node;
-                self.stage = Stage::Order(OrderStage::Follow);
+                self.read_node(entry.descriptor.node, Stage::Order(OrderStage::Follow));
             }
             (OrderStage::Follow, Seen::Link(x)) => return self.answered(x),
             _ => {}

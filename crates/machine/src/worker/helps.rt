@@ -11,8 +11,8 @@ use crate::stage::{
     EmptyStage, FinishDeqStage, FinishEnqStage, HelpDeqStage, HelpEnqStage, Return, Stage,
     TakeStage,
 };
+use crate::step::Step;
 use crate::worker::Worker;
-use crate::worker::advances::is_node;
 use vocabulary::kind::Kind;
 
 impl Worker {
@@ -56,17 +56,21 @@ impl Worker {
         }
     }
 
-    // Advances in help_enq, in the step of this number.
-    fn help_enq(&mut self, n: u8, number: u32, at: HelpEnqStage, seen: Seen) -> Outcome
-        ensures { record { worker = self.new; outcome = result } ≡ help_enq_advance n number self.old seen at }
+    // Advances in help_enq.
+    fn help_enq(&mut self, step: Step, at: HelpEnqStage) -> Outcome
+        ensures { record { worker = self.new; outcome = result } ≡ help_enq_advance step.n step.number self.old step.seen at }
     {
         use crate::stage::HelpEnqStage::*;
-        match (at, seen) {
-            (C1, Seen::Entry(e)) => self.on_or_next(e.descriptor.pending, Stage::HelpEnq(C2), n),
+        match (at, step.seen) {
+            (C1, Seen::Entry(e)) => self.on_or_next(
+                e.descriptor.pending,
+                Stage::HelpEnq(C2),
+                step.n,
+            ),
             (C2, Seen::Entry(e)) => self.on_or_next(
                 e.descriptor.phase <= self.phase,
                 Stage::HelpEnq(P1),
-                n,
+                step.n,
             ),
             (P1, Seen::Place(l)) => self.read_tail(l, Stage::HelpEnq(P2)),
             (P2, Seen::Link(x)) => self.read_next(x, Stage::HelpEnq(P3)),
@@ -80,43 +84,45 @@ impl Worker {
             (C1AfterP3, Seen::Entry(e)) => self.on_or_enq(e.descriptor.pending, C2AfterP3),
             (C2AfterP3, Seen::Entry(e)) => self.on_or_enq(e.descriptor.phase <= self.phase, P4),
             (P4, Seen::Entry(e)) => self.read_node(e.descriptor.node, Stage::HelpEnq(P5)),
-            (P5, Seen::Held(held)) => {
-                if held {
-                    self.stage = Stage::FinishEnq(FinishEnqStage::E1, Return::NextWorker);
-                    return self.pointed(number, Kind::Post);
-                }
-                self.stage = Stage::HelpEnq(C1);
+            (P5, Seen::Held(true)) => {
+                self.stage = Stage::FinishEnq(FinishEnqStage::E1, Return::NextWorker);
+                return self.pointed(step.number, Kind::Post);
             }
+            (P5, Seen::Held(false)) => self.stage = Stage::HelpEnq(C1),
             _ => {}
         }
         Outcome::Worked
     }
 
-    // Advances in help_deq, in the step of this number.
-    fn help_deq(&mut self, n: u8, number: u32, at: HelpDeqStage, seen: Seen) -> Outcome
-        ensures { record { worker = self.new; outcome = result } ≡ help_deq_advance n number self.old seen at }
+    // Advances in help_deq.
+    fn help_deq(&mut self, step: Step, at: HelpDeqStage) -> Outcome
+        ensures { record { worker = self.new; outcome = result } ≡ help_deq_advance step.n step.number self.old step.seen at }
     {
         use crate::stage::HelpDeqStage::*;
-        match (at, seen) {
-            (C1, Seen::Entry(e)) => self.on_or_next(e.descriptor.pending, Stage::HelpDeq(C2), n),
+        match (at, step.seen) {
+            (C1, Seen::Entry(e)) => self.on_or_next(
+                e.descriptor.pending,
+                Stage::HelpDeq(C2),
+                step.n,
+            ),
             (C2, Seen::Entry(e)) => self.on_or_next(
                 e.descriptor.phase <= self.phase,
                 Stage::HelpDeq(T1),
-                n,
+                step.n,
             ),
             (T1, Seen::Place(h)) => self.read_head(h, Stage::HelpDeq(T2)),
             (T2, Seen::Place(l)) => self.read_tail(l, Stage::HelpDeq(T3)),
-            (T3, Seen::Link(x)) => self.read_t3(x, number, Stage::HelpDeq(T4)),
+            (T3, Seen::Link(x)) => self.read_t3(x, step.number, Stage::HelpDeq(T4)),
             (T4, Seen::Place(h)) => {
-                if h != self.head {
-                    self.stage = Stage::HelpDeq(C1);
+                self.stage = if h != self.head {
+                    Stage::HelpDeq(C1)
                 } else if self.head != self.tail {
-                    self.stage = Stage::Take(TakeStage::T9);
+                    Stage::Take(TakeStage::T9)
                 } else if self.next.is_none() {
-                    self.stage = Stage::Empty(EmptyStage::T5);
+                    Stage::Empty(EmptyStage::T5)
                 } else {
-                    self.stage = Stage::FinishEnq(FinishEnqStage::E1, Return::HelpDeq);
-                }
+                    Stage::FinishEnq(FinishEnqStage::E1, Return::HelpDeq)
+                };
             }
             _ => {}
         }
@@ -124,11 +130,11 @@ impl Worker {
     }
 
     // Advances in help_deq where the queue was seen empty.
-    fn find_empty(&mut self, at: EmptyStage, seen: Seen) -> Outcome
-        ensures { record { worker = self.new; outcome = result } ≡ empty_advance self.old seen at }
+    fn find_empty(&mut self, step: Step, at: EmptyStage) -> Outcome
+        ensures { record { worker = self.new; outcome = result } ≡ empty_advance self.old step.seen at }
     {
         use crate::stage::EmptyStage::*;
-        match (at, seen) {
+        match (at, step.seen) {
             (T5, Seen::Entry(e)) => self.save_count(e.count, Stage::Empty(T6)),
             (T6, Seen::Place(l)) => self.on_or_deq(l == self.tail, Stage::Empty(C1)),
             (C1, Seen::Entry(e)) => self.on_or_deq(e.descriptor.pending, Stage::Empty(C2)),
@@ -148,21 +154,21 @@ impl Worker {
         Outcome::Worked
     }
 
-    // Advances in help_deq where there is an element to take, in the step of this number.
-    fn take(&mut self, n: u8, number: u32, at: TakeStage, seen: Seen) -> Outcome
-        ensures { record { worker = self.new; outcome = result } ≡ take_advance n number self.old seen at }
+    // Advances in help_deq where there is an element to take.
+    fn take(&mut self, step: Step, at: TakeStage) -> Outcome
+        ensures { record { worker = self.new; outcome = result } ≡ take_advance step.n step.number self.old step.seen at }
     {
         use crate::stage::TakeStage::*;
-        match (at, seen) {
+        match (at, step.seen) {
             (T9, Seen::Entry(e)) => self.read_claim(e.count, e.descriptor.node, Stage::Take(C1)),
-            (C1, Seen::Entry(e)) => self.on_or_next(e.descriptor.pending, Stage::Take(C2), n),
+            (C1, Seen::Entry(e)) => self.on_or_next(e.descriptor.pending, Stage::Take(C2), step.n),
             (C2, Seen::Entry(e)) => self.on_or_next(
                 e.descriptor.phase <= self.phase,
                 Stage::Take(T10),
-                n,
+                step.n,
             ),
             (T10, Seen::Place(h)) => {
-                let claims = h == self.head && !is_node(self.node, self.head);
+                let claims = h == self.head && self.node != Some(self.head);
                 self.stage = Stage::Take(if claims { T11 } else { T13 });
             }
             (T11, Seen::Entry(e)) => self.keep_phase(e.descriptor.phase, Stage::Take(T12)),
@@ -170,7 +176,7 @@ impl Worker {
             (T13, Seen::Held(held)) => {
                 self.stage = Stage::FinishDeq(FinishDeqStage::D1, Return::HelpDeq);
                 if held {
-                    return self.pointed(number, Kind::Fetch);
+                    return self.pointed(step.number, Kind::Fetch);
                 }
             }
             _ => {}
@@ -178,21 +184,21 @@ impl Worker {
         Outcome::Worked
     }
 
-    // Advances by what its access saw, in the step of this number, in a crew of n. Phases are far below the bound: they
-    // are at most the steps counted.
-    pub(crate) fn advance(&mut self, n: u8, number: u32, seen: Seen) -> Outcome
-        requires { (self.old.phase < 2 ^ 31) × (phase_seen seen < 2 ^ 31) }
-        ensures { record { worker = self.new; outcome = result } ≡ advance_of n number self.old seen }
+    // Advances in one step, by what its access saw. Phases are far below the bound: they are at most
+    // the steps counted.
+    pub(crate) fn advance(&mut self, step: Step) -> Outcome
+        requires { (self.old.phase < 2 ^ 31) × (phase_seen step.seen < 2 ^ 31) }
+        ensures { record { worker = self.new; outcome = result } ≡ advance_of step.n step.number self.old step.seen }
     {
         match self.stage {
             Stage::Idle => Outcome::Idle,
-            Stage::Order(at) => self.order(n, at, seen),
-            Stage::FinishEnq(at, then) => self.finish_enq(n, at, then, seen),
-            Stage::FinishDeq(at, then) => self.finish_deq(n, at, then, seen),
-            Stage::HelpEnq(at) => self.help_enq(n, number, at, seen),
-            Stage::HelpDeq(at) => self.help_deq(n, number, at, seen),
-            Stage::Empty(at) => self.find_empty(at, seen),
-            Stage::Take(at) => self.take(n, number, at, seen),
+            Stage::Order(at) => self.order(step, at),
+            Stage::FinishEnq(at, then) => self.finish_enq(step, at, then),
+            Stage::FinishDeq(at, then) => self.finish_deq(step, at, then),
+            Stage::HelpEnq(at) => self.help_enq(step, at),
+            Stage::HelpDeq(at) => self.help_deq(step, at),
+            Stage::Empty(at) => self.find_empty(step, at),
+            Stage::Take(at) => self.take(step, at),
         }
     }
 }
