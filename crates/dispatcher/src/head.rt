@@ -12,18 +12,7 @@ use pickers::picker::Picker;
 use texts::card::Card;
 use texts::heads::read_heads;
 use texts::reader::Reader;
-use vocabulary::crew::Crew;
 use vocabulary::kind::ElementKind;
-
-// The crew of one.
-fn lone_crew() -> Crew
-    ensures { result.n ≡ 1 }
-{
-    match Crew::try_from(1u64) {
-        Ok(crew) => crew,
-        Err(_) => unreachable!(),
-    }
-}
 
 // The ledger's `run` line of a picker and a kind of element. Crew and window are what the picker tells.
 fn told_line<P: Picker>(picker: &P, kind: ElementKind, named: PickerKind) -> Line
@@ -47,10 +36,9 @@ fn run_line(card: &Card, kind: ElementKind) -> Line
 pub fn head_line<'t>(card: &'t [u8], sheet: &'t [u8]) -> Line
     ensures { text_of result ≡ head_bytes (card_of (opening TextName.Card card.entry)) (opening TextName.Sheet sheet.entry) }
 {
-    let mut held = Card::of(lone_crew());
     let mut reader = Reader::sheet(sheet);
-    match read_heads(&mut held, card, &mut reader) {
-        Ok(kind) => run_line(&held, kind),
-        Err(fault) => Line::fault(fault),
+    match read_heads(card, &mut reader) {
+        Ok((card, Ok(kind))) => run_line(&card, kind),
+        Ok((_, Err(fault))) | Err(fault) => Line::fault(fault),
     }
 }
