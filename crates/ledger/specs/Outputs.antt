@@ -1,8 +1,7 @@
 -- Bytes written into an output of which the first n bytes are written: all of them, or none.
-use Rattle.std.specs.Prelude.{◌≡◌, ℕ, ◌+◌, Bool, cond, List, ◌++◌, length, take, drop, Ok, Err, Result, nat_le}
+use Rattle.std.specs.Prelude.{ℕ, ◌+◌, Bool, cond, List, ◌++◌, length, take, drop, Ok, Err, Result, nat_le}
 use Rattle.vocabulary.specs.declared.refusal.Refusal.{Refusal}
 use Rattle.vocabulary.specs.declared.refusal.Refusal.TheVariants.{OutputFull}
-use Rattle.ledger.specs.declared.output.Output.{Output}
 
 -- bytes that end where the output ends fit
 abbrev pub fits : ℕ → List ℕ → List ℕ → Bool
@@ -18,14 +17,6 @@ len_after n bs out = cond (fits n bs out) (n + length bs) n
 
 abbrev pub answer_of : ℕ → List ℕ → List ℕ → Result (Unit {0}) Refusal
 answer_of n bs out = cond (fits n bs out) (Ok tt) (Err OutputFull)
-
--- bytes put behind what is written in an output: the answer, and the output before and after
-pub record Puts (bs : List ℕ) (before after : Output) (result : Result (Unit {0}) Refusal) : Type 0 where
-  pub answer : result ≡ answer_of before.len bs before.bytes.now
-  pub held : after.bytes.now ≡ put_at before.len bs before.bytes.now
-  pub long : after.len ≡ len_after before.len bs before.bytes.now
-  -- it is over the same lent bytes
-  pub same : after.bytes.ghost_name ≡ before.bytes.ghost_name
 
 -- the answer where the bytes are put at the output's start: how many there are
 abbrev pub count_of : List ℕ → List ℕ → Result ℕ Refusal
