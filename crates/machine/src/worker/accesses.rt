@@ -3,6 +3,7 @@
 ghost use Rattle.std.specs.Prelude.{◌≡◌};
 ghost use Rattle.machine.specs.Accesses.{order_access, finish_enq_access, finish_deq_access, help_enq_access, help_deq_access, empty_access, take_access, access_of};
 ghost use Rattle.machine.specs.Queues.{memory_of};
+ghost use Rattle.machine.specs.declared.access.Access.{Access};
 
 use crate::access::Access;
 use crate::entry::{Descriptor, OrderKind};
@@ -14,6 +15,19 @@ use crate::stage::{
 use crate::worker::Worker;
 
 impl Worker {
+    // The exchange of the entry of k that keeps the phase that was read, if it was not written since the saved count.
+    fn exchange(&self, k: u8, pending: bool, kind: OrderKind, node: Option<u8>) -> Access
+        ensures { result ≡ Access.ExchangeEntry k self.now.saved (record { phase = self.now.kept_phase; pending = pending; kind = kind; node = node }) }
+    {
+        let descriptor = Descriptor {
+            phase: self.kept_phase,
+            pending,
+            kind,
+            node,
+        };
+        Access::ExchangeEntry(k, self.saved, descriptor)
+    }
+
     // An order's own access; w is the worker's own number.
     fn order_access(&self, w: u8, at: OrderStage) -> Access
         ensures { result ≡ order_access w self.now at }
@@ -42,15 +56,7 @@ impl Worker {
             FinishEnqStage::E1 | FinishEnqStage::E4 => Access::ReadTail,
             FinishEnqStage::E2 => Access::ReadSuccessor(self.tail),
             FinishEnqStage::E3 | FinishEnqStage::E5 | FinishEnqStage::E6 => Access::ReadEntry(k),
-            FinishEnqStage::E7 => {
-                let descriptor = Descriptor {
-                    phase: self.kept_phase,
-                    pending: false,
-                    kind: OrderKind::Post,
-                    node: self.next,
-                };
-                Access::ExchangeEntry(k, self.saved, descriptor)
-            }
+            FinishEnqStage::E7 => self.exchange(k, false, OrderKind::Post, self.next),
             FinishEnqStage::E8 => Access::ExchangeTail(self.tail, self.next.unwrap_or(0)),
         }
     }
@@ -64,15 +70,7 @@ impl Worker {
             FinishDeqStage::D2 => Access::ReadSuccessor(self.head),
             FinishDeqStage::D3 => Access::ReadTaker(self.head),
             FinishDeqStage::D4 | FinishDeqStage::D6 | FinishDeqStage::D7 => Access::ReadEntry(k),
-            FinishDeqStage::D8 => {
-                let descriptor = Descriptor {
-                    phase: self.kept_phase,
-                    pending: false,
-                    kind: OrderKind::Fetch,
-                    node: self.node,
-                };
-                Access::ExchangeEntry(k, self.saved, descriptor)
-            }
+            FinishDeqStage::D8 => self.exchange(k, false, OrderKind::Fetch, self.node),
             FinishDeqStage::D9 => Access::ExchangeHead(self.head, self.next.unwrap_or(0)),
         }
     }
@@ -107,15 +105,7 @@ impl Worker {
     {
         match at {
             EmptyStage::T6 => Access::ReadTail,
-            EmptyStage::T8 => {
-                let descriptor = Descriptor {
-                    phase: self.kept_phase,
-                    pending: false,
-                    kind: OrderKind::Fetch,
-                    node: None,
-                };
-                Access::ExchangeEntry(self.index, self.saved, descriptor)
-            }
+            EmptyStage::T8 => self.exchange(self.index, false, OrderKind::Fetch, None),
             _ => Access::ReadEntry(self.index),
         }
     }
@@ -126,15 +116,7 @@ impl Worker {
     {
         match at {
             TakeStage::T10 => Access::ReadHead,
-            TakeStage::T12 => {
-                let descriptor = Descriptor {
-                    phase: self.kept_phase,
-                    pending: true,
-                    kind: OrderKind::Fetch,
-                    node: Some(self.head),
-                };
-                Access::ExchangeEntry(self.index, self.saved, descriptor)
-            }
+            TakeStage::T12 => { self.exchange(self.index, true, OrderKind::Fetch, Some(self.head)) }
             TakeStage::T13 => Access::ExchangeTaker(self.head, self.index),
             _ => Access::ReadEntry(self.index),
         }
