@@ -41,25 +41,21 @@ fn first_fault<'t, T: Element + Copy>(sheet: &mut Reader<'t>) -> Option<Fault<'t
 
 // A sheet of one kind of element, by its lines written again or by its fault.
 #[derive(Drop)]
-struct SheetOf<'t, T> {
-    text: &'t [u8],
-    kind: ElementKind,
-    element: PhantomData<T>,
-}
+struct SheetOf<'t, T>(&'t [u8], ElementKind, PhantomData<T>);
 
 impl<T: Element + Copy> fmt::Display for SheetOf<'_, T>
 where
     Shown<T>: fmt::Display,
 {
     fn fmt<W: fmt::Write>(&self, f: &mut fmt::Formatter<W>) -> fmt::Result {
-        let mut sheet = Reader::sheet(self.text);
+        let mut sheet = Reader::sheet(self.0);
         let _ = sheet.kind();
         if let Some(fault) = first_fault::<T>(&mut sheet) {
             return write!(f, "{}", Faulted(fault));
         }
-        let mut sheet = Reader::sheet(self.text);
+        let mut sheet = Reader::sheet(self.0);
         let _ = sheet.kind();
-        write!(f, "kind>{};", self.kind.word())?;
+        write!(f, "kind>{};", self.1.word())?;
         while let Ok(Some(line)) = sheet.next_line::<T>() {
             write!(f, "{}", Said(line))?;
         }
@@ -76,33 +72,13 @@ impl fmt::Display for SheetOutcome<'_> {
         let text = self.0;
         let mut sheet = Reader::sheet(text);
         match sheet.kind() {
+            Ok(kind @ ElementKind::Bundle) => {
+                write!(f, "{}", SheetOf::<Bundle>(text, kind, PhantomData))
+            }
+            Ok(kind @ ElementKind::Landing) => {
+                write!(f, "{}", SheetOf::<Landing>(text, kind, PhantomData))
+            }
             Err(fault) => write!(f, "{}", Faulted(fault)),
-            Ok(kind) => match kind {
-                ElementKind::Bundle => {
-                    let element = PhantomData::<Bundle>;
-                    write!(
-                        f,
-                        "{}",
-                        SheetOf {
-                            text,
-                            kind,
-                            element
-                        }
-                    )
-                }
-                ElementKind::Landing => {
-                    let element = PhantomData::<Landing>;
-                    write!(
-                        f,
-                        "{}",
-                        SheetOf {
-                            text,
-                            kind,
-                            element
-                        }
-                    )
-                }
-            },
         }
     }
 }

@@ -34,12 +34,12 @@ impl fmt::Display for Part<'_> {
     fn fmt<W: fmt::Write>(&self, f: &mut fmt::Formatter<W>) -> fmt::Result {
         for b in self.0 {
             let c = match *b {
-                9 => '>',
-                10 => ';',
-                0 => '@',
-                13 => '%',
-                255 => '$',
-                32 => '_',
+                b'\t' => '>',
+                b'\n' => ';',
+                b'\0' => '@',
+                b'\r' => '%',
+                0xff => '$',
+                b' ' => '_',
                 other => char::from(other),
             };
             write!(f, "{c}")?;
@@ -54,17 +54,16 @@ pub struct Faulted<'t>(pub Fault<'t>);
 
 impl fmt::Display for Faulted<'_> {
     fn fmt<W: fmt::Write>(&self, f: &mut fmt::Formatter<W>) -> fmt::Result {
-        let Fault {
-            text,
-            line,
-            field,
-            number,
-            part,
-        } = self.0;
-        let text = text.word();
-        let number = number.number();
-        let part = Part(part);
-        write!(f, "fault>{text}>{line}>{field}>{number}>{part}")
+        let fault = self.0;
+        write!(
+            f,
+            "fault>{}>{}>{}>{}>{}",
+            fault.text.word(),
+            fault.line,
+            fault.field,
+            fault.number.number(),
+            Part(fault.part)
+        )
     }
 }
 
