@@ -10,10 +10,9 @@ use Rattle.texts.specs.declared.card.Card.{Card}
 use Rattle.texts.specs.declared.fault.Bad.{Bad}
 use Rattle.texts.specs.declared.fault.Fault.{Fault}
 use Rattle.texts.specs.Faults.{Spot, spot_of}
-use Rattle.texts.specs.Lines.{Row, row_of, next_row, bad_row, kept_or, word_at, keyword_at, end_at, and_then}
+use Rattle.texts.specs.Lines.{Row, row_of, next_row, bad_row, kept_or, word_at, keyword_at, end_at, last_number, and_then}
 use Rattle.texts.specs.Numbers.{number_of, within}
 use Rattle.texts.specs.Places.{Place, line_at, after_line, size_of, judged_line, end_of_text}
-use Rattle.texts.specs.Sheets.{last_number}
 
 -- a crew; the row of a frame, or none for rounds; and the place in the row, or the worker, that comes next
 pub record CardSays : Type 0 where

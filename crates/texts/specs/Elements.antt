@@ -4,7 +4,7 @@ use Rattle.std.specs.Str.{bytes_eq}
 use Rattle.vocabulary.specs.declared.bundle.Bundle.{Bundle}
 use Rattle.vocabulary.specs.declared.landing.Landing.{Landing}
 use Rattle.texts.specs.declared.fault.Bad.{Bad}
-use Rattle.texts.specs.Lines.{Row, next_row, bad_row, word_at, number_at, coordinate_at, end_at, and_then}
+use Rattle.texts.specs.Lines.{Row, next_row, bad_row, word_at, number_at, coordinate_at, end_at, last_number, and_then}
 
 -- three numbers: field, wavelength and rays
 abbrev pub bundle_of : Row → Result Bundle Bad
@@ -12,7 +12,7 @@ bundle_of v = and_then (number_at 0 255 v) (λ f. and_then (number_at 0 255 (nex
 
 -- the surface at which the ray was lost
 abbrev pub lost_of : Row → Result Landing Bad
-lost_of v = and_then (number_at 0 255 v) (λ s. and_then (end_at (next_row v)) (λ _. Ok (Landing.Lost s)))
+lost_of v = and_then (last_number 0 255 v) (λ s. Ok (Landing.Lost s))
 
 -- x and y of the place that it hit
 abbrev pub landing_hit : Row → Result Landing Bad

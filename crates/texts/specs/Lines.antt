@@ -82,6 +82,10 @@ none_left bad (x ∷ xs) = Err bad
 abbrev pub end_at : Row → Result (Unit {0}) Bad
 end_at v = none_left (bad_row v) v.left
 
+-- a number from low to high, and nothing after it
+abbrev pub last_number : ℕ → ℕ → Row → Result ℕ Bad
+last_number low high v = and_then (number_at low high v) (λ n. and_then (end_at (next_row v)) (λ _. Ok n))
+
 -- a word by its bytes alone
 abbrev pub bare : Result (Bor (List ℕ)) Bad → Result (List ℕ) Bad
 bare (Ok w) = Ok w.now

@@ -6,12 +6,8 @@ use Rattle.vocabulary.specs.Kinds.{element_word}
 use Rattle.texts.specs.declared.fault.Bad.{Bad}
 use Rattle.texts.specs.declared.sheet.SheetLine.{SheetLine}
 use Rattle.texts.specs.Faults.{Spot}
-use Rattle.texts.specs.Lines.{Row, row_of, next_row, bad_row, word_at, keyword_at, number_at, end_at, and_then}
+use Rattle.texts.specs.Lines.{Row, row_of, next_row, bad_row, word_at, keyword_at, number_at, end_at, last_number, and_then}
 use Rattle.texts.specs.Places.{Place, line_at, after_line, size_of, too_long, judged_line, all_read}
-
--- a number from low to high, and nothing after it
-abbrev pub last_number : ℕ → ℕ → Row → Result ℕ Bad
-last_number low high v = and_then (number_at low high v) (λ n. and_then (end_at (next_row v)) (λ _. Ok n))
 
 -- a worker's number is 0 to 255
 abbrev pub worker_then : {A : Type 0} → (ℕ → A) → Row → Result A Bad

@@ -1,7 +1,7 @@
 ghost use Rattle.std.specs.Prelude.{◌≡◌, Result};
 ghost use Rattle.texts.specs.declared.fault.Bad.{Bad};
 ghost use Rattle.texts.specs.Lines.{Row, row};
-ghost use Rattle.texts.specs.Elements.{bundle_of, lost_of, landing_hit, landing_of};
+ghost use Rattle.texts.specs.Elements.{bundle_of, landing_hit, landing_of};
 
 use crate::fault::Bad;
 use crate::fields::Fields;
@@ -34,15 +34,6 @@ impl Element for Bundle {
     }
 }
 
-// The landing of a ray that was lost, from its surface on.
-fn lost(mut fields: Fields<'_>) -> Result<Landing, Bad>
-    ensures { result ≡ lost_of (row fields.entry) }
-{
-    let surface = fields.byte()?;
-    fields.end()?;
-    Ok(Landing::Lost { surface })
-}
-
 // The landing of a ray that hit the image plane, from its x on.
 fn hit(mut fields: Fields<'_>) -> Result<Landing, Bad>
     ensures { result ≡ landing_hit (row fields.entry) }
@@ -59,7 +50,9 @@ impl Element for Landing {
     fn read(mut fields: Fields<'_>) -> Result<Landing, Bad> {
         let bad = fields.next_bad();
         match fields.word()? {
-            b"lost" => lost(fields),
+            b"lost" => Ok(Landing::Lost {
+                surface: fields.last_byte()?,
+            }),
             b"hit" => hit(fields),
             _ => Err(bad),
         }

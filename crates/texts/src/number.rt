@@ -25,13 +25,8 @@ pub(crate) fn number(digits: &[u8]) -> Option<u64>
 fn signed(minus: bool, number: Option<u64>) -> Option<i32>
     ensures { result ≡ signed_by minus number }
 {
-    match number {
-        Some(n) if n <= 2_000_000 => {
-            let c = n as i32;
-            Some(if minus { -c } else { c })
-        }
-        _ => None,
-    }
+    let c = number.filter(|n| *n <= 2_000_000)? as i32;
+    Some(if minus { -c } else { c })
 }
 
 // The coordinate, in nanometres, that a number with or without a minus before it writes; none of any other bytes, and
@@ -39,14 +34,8 @@ fn signed(minus: bool, number: Option<u64>) -> Option<i32>
 pub(crate) fn coordinate(bytes: &[u8]) -> Option<i32>
     ensures { result ≡ coordinate_of bytes.now }
 {
-    match bytes.split_first() {
-        None => None,
-        Some((first, digits)) => {
-            if *first == b'-' {
-                signed(true, number(digits))
-            } else {
-                signed(false, number(bytes))
-            }
-        }
+    match bytes {
+        [b'-', digits @ ..] => signed(true, number(digits)),
+        _ => signed(false, number(bytes)),
     }
 }

@@ -1,8 +1,8 @@
-ghost use Rattle.std.specs.Prelude.{◌≡◌, ◌≤◌, IfOk};
+ghost use Rattle.std.specs.Prelude.{◌≡◌};
 ghost use Rattle.texts.specs.Lines.{row};
 ghost use Rattle.texts.specs.Faults.{placed};
 ghost use Rattle.texts.specs.Places.{opening, after_line};
-ghost use Rattle.texts.specs.Sheets.{last_number, post_line, sheet_line, kind_word, kind_line, kind_at, after_kind, sheet_line_at};
+ghost use Rattle.texts.specs.Sheets.{post_line, sheet_line, kind_word, kind_line, kind_at, after_kind, sheet_line_at};
 ghost use Rattle.texts.specs.declared.fault.TextName.{TextName};
 
 use crate::element::Element;
@@ -24,23 +24,6 @@ pub enum SheetLine<T> {
     Turn { count: u32 },
 }
 
-// The last field of a line, as a number from `low` to `high`.
-pub(crate) fn last_number(mut fields: Fields<'_>, low: u64, high: u64) -> Result<u64, Bad>
-    ensures value { result ≡ last_number low high (row fields.entry) }
-    ensures bound { IfOk result (λ n. n ≤ high) }
-{
-    let n = fields.number(low, high)?;
-    fields.end()?;
-    Ok(n)
-}
-
-// The last field of a line, as a number from 0 to 255.
-fn last_byte(fields: Fields<'_>) -> Result<u8, Bad>
-    ensures { result ≡ last_number 0 255 (row fields.entry) }
-{
-    Ok(last_number(fields, 0, 255)? as u8)
-}
-
 // A post's line, from the worker on.
 fn post_line<T: Element>(mut fields: Fields<'_>) -> Result<SheetLine<T>, Bad>
     ensures { result ≡ post_line T.Element.reads (row fields.entry) }
@@ -58,13 +41,13 @@ fn sheet_line<T: Element>(mut fields: Fields<'_>) -> Result<SheetLine<T>, Bad>
     match fields.word()? {
         b"post" => post_line(fields),
         b"fetch" => Ok(SheetLine::Fetch {
-            worker: last_byte(fields)?,
+            worker: fields.last_byte()?,
         }),
         b"step" => Ok(SheetLine::Step {
-            worker: last_byte(fields)?,
+            worker: fields.last_byte()?,
         }),
         b"turn" => Ok(SheetLine::Turn {
-            count: last_number(fields, 1, 1_000_000)? as u32,
+            count: fields.last_number(1, 1_000_000)? as u32,
         }),
         _ => Err(bad),
     }

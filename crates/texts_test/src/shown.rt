@@ -1,7 +1,7 @@
 // The outcomes' forms as text.
 use pickers::picker::Picker;
 use std::fmt;
-use texts::fault::{Fault, TextName};
+use texts::fault::Fault;
 use texts::sheet::SheetLine;
 use vocabulary::bundle::Bundle;
 use vocabulary::landing::Landing;
@@ -26,10 +26,6 @@ impl<P: Picker + Copy> fmt::Display for Named<P> {
     }
 }
 
-// A line of a sheet after its first.
-#[derive(Drop)]
-pub struct Said<T>(pub SheetLine<T>);
-
 // Bytes in stand-ins: one character for each byte.
 #[derive(Drop)]
 struct Part<'t>(&'t [u8]);
@@ -38,12 +34,12 @@ impl fmt::Display for Part<'_> {
     fn fmt<W: fmt::Write>(&self, f: &mut fmt::Formatter<W>) -> fmt::Result {
         for b in self.0 {
             let c = match *b {
-                9 => '>',
-                10 => ';',
-                0 => '@',
-                13 => '%',
-                255 => '$',
-                32 => '_',
+                b'\t' => '>',
+                b'\n' => ';',
+                b'\0' => '@',
+                b'\r' => '%',
+                0xff => '$',
+                b' ' => '_',
                 other => char::from(other),
             };
             write!(f, "{c}")?;
@@ -58,43 +54,54 @@ pub struct Faulted<'t>(pub Fault<'t>);
 
 impl fmt::Display for Faulted<'_> {
     fn fmt<W: fmt::Write>(&self, f: &mut fmt::Formatter<W>) -> fmt::Result {
-        let name = match self.0.text {
-            TextName::Card => "card",
-            TextName::Sheet => "sheet",
-        };
-        let line = self.0.line;
-        let field = self.0.field;
-        let number = self.0.number.number();
-        let part = Part(self.0.part);
-        write!(f, "fault>{name}>{line}>{field}>{number}>{part}")
+        let fault = self.0;
+        write!(
+            f,
+            "fault>{}>{}>{}>{}>{}",
+            fault.text.word(),
+            fault.line,
+            fault.field,
+            fault.number.number(),
+            Part(fault.part)
+        )
     }
 }
 
-// A line of a sheet of bundles.
-impl fmt::Display for Said<Bundle> {
+// An element, by the fields that write it.
+#[derive(Drop)]
+pub struct Shown<T>(pub T);
+
+impl fmt::Display for Shown<Bundle> {
+    fn fmt<W: fmt::Write>(&self, f: &mut fmt::Formatter<W>) -> fmt::Result {
+        let Bundle {
+            field,
+            wavelength,
+            rays,
+        } = self.0;
+        write!(f, "{field}>{wavelength}>{rays}")
+    }
+}
+
+impl fmt::Display for Shown<Landing> {
     fn fmt<W: fmt::Write>(&self, f: &mut fmt::Formatter<W>) -> fmt::Result {
         match self.0 {
-            SheetLine::Post { worker, element } => {
-                let field = element.field;
-                let wavelength = element.wavelength;
-                let rays = element.rays;
-                write!(f, "post>{worker}>{field}>{wavelength}>{rays};")
-            }
-            SheetLine::Fetch { worker } => write!(f, "fetch>{worker};"),
-            SheetLine::Step { worker } => write!(f, "step>{worker};"),
-            SheetLine::Turn { count } => write!(f, "turn>{count};"),
+            Landing::Lost { surface } => write!(f, "lost>{surface}"),
+            Landing::Hit { x, y } => write!(f, "hit>{x}>{y}"),
         }
     }
 }
 
-// A line of a sheet of landings.
-impl fmt::Display for Said<Landing> {
+// A line of a sheet after its first.
+#[derive(Drop)]
+pub struct Said<T>(pub SheetLine<T>);
+
+impl<T: Copy> fmt::Display for Said<T>
+where
+    Shown<T>: fmt::Display,
+{
     fn fmt<W: fmt::Write>(&self, f: &mut fmt::Formatter<W>) -> fmt::Result {
         match self.0 {
-            SheetLine::Post { worker, element } => match element {
-                Landing::Lost { surface } => write!(f, "post>{worker}>lost>{surface};"),
-                Landing::Hit { x, y } => write!(f, "post>{worker}>hit>{x}>{y};"),
-            },
+            SheetLine::Post { worker, element } => write!(f, "post>{worker}>{};", Shown(element)),
             SheetLine::Fetch { worker } => write!(f, "fetch>{worker};"),
             SheetLine::Step { worker } => write!(f, "step>{worker};"),
             SheetLine::Turn { count } => write!(f, "turn>{count};"),

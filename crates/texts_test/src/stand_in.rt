@@ -10,12 +10,12 @@ fn byte_for(b: u8) -> u8
     ensures { result ≡ byte_for b }
 {
     match b {
-        b'>' => 9,
-        b';' => 10,
-        b'@' => 0,
-        b'%' => 13,
-        b'$' => 255,
-        b'_' => 32,
+        b'>' => b'\t',
+        b';' => b'\n',
+        b'@' => b'\0',
+        b'%' => b'\r',
+        b'$' => 0xff,
+        b'_' => b' ',
         _ => b,
     }
 }
@@ -30,12 +30,11 @@ fetch\t0\nfetch\t0\nfetch\t0\nfetch\t0\nfetch\t0\nfetch\t0\nfetch\t0\nfetch\t0\n
 fn add_for(out: &mut Vec<u8>, b: u8) -> Result<(), AllocError>
     ensures { OnOk result (out.new.items ≡ out.old.items ++ bytes_for b) }
 {
-    if b == b'#' {
-        out.extend_from_slice(&[b'x'; 4096])?;
-    } else if b == b'*' {
-        out.extend_from_slice(LINES)?;
-    } else if b != b'~' {
-        out.push(byte_for(b))?;
+    match b {
+        b'#' => out.extend_from_slice(&[b'x'; 4096])?,
+        b'*' => out.extend_from_slice(LINES)?,
+        b'~' => (),
+        _ => out.push(byte_for(b))?,
     }
     Ok(())
 }

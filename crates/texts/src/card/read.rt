@@ -11,7 +11,6 @@ use crate::fault::{Bad, Fault, TextName};
 use crate::fields::Fields;
 use crate::number::LARGEST;
 use crate::reader::Reader;
-use crate::sheet::last_number;
 use crate::workers::{first_foreign, named};
 use pickers::frame::Frame;
 use pickers::round::Round;
@@ -23,7 +22,7 @@ fn crew_line(mut fields: Fields<'_>) -> Result<Crew, Bad>
     ensures { crew_or result ≡ crew_line (row fields.entry) }
 {
     fields.keyword(b"crew")?;
-    let n = last_number(fields, 0, LARGEST)?;
+    let n = fields.last_number(0, LARGEST)?;
     Crew::try_from(n).map_err(|number| Bad { field: 2, number })
 }
 

@@ -1,5 +1,5 @@
 ghost use Rattle.std.specs.Prelude.{◌≡◌, ◌≤◌, IfOk};
-ghost use Rattle.texts.specs.Lines.{row, row_of, next_row, bad_row, word_at, keyword_at, number_at, coordinate_at, end_at, bare, no_fields};
+ghost use Rattle.texts.specs.Lines.{row, row_of, next_row, bad_row, word_at, keyword_at, number_at, coordinate_at, end_at, last_number, bare, no_fields};
 
 use crate::cut::length_before;
 use crate::fault::Bad;
@@ -99,5 +99,22 @@ impl<'t> Fields<'t> {
             return Ok(());
         }
         Err(self.next_bad())
+    }
+
+    // The last field as a number from `low` to `high`.
+    pub(crate) fn last_number(mut self, low: u64, high: u64) -> Result<u64, Bad>
+        ensures value { result ≡ last_number low high (row self.entry) }
+        ensures bound { IfOk result (λ n. n ≤ high) }
+    {
+        let n = self.number(low, high)?;
+        self.end()?;
+        Ok(n)
+    }
+
+    // The last field as a number from 0 to 255.
+    pub(crate) fn last_byte(self) -> Result<u8, Bad>
+        ensures { result ≡ last_number 0 255 (row self.entry) }
+    {
+        Ok(self.last_number(0, 255)? as u8)
     }
 }

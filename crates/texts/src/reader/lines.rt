@@ -73,7 +73,7 @@ impl<'t> Reader<'t> {
                 line: 0,
                 field: 0,
                 number: Refusal::Format,
-                part: &self.text[0..0],
+                part: &self.text[..0],
             });
         }
         Ok(())
