@@ -1,5 +1,5 @@
 -- Fields taken one after another into a row of workers give the row of all of them.
-use Rattle.std.proofs.Common.{◌≡◌, ℕ, ◌+◌, ◌<◌, ◌≤◌, true, false, List, [], ◌∷◌, ◌++◌, map, length, take, Some, None, Ok, Err, Option, Result, sym, refl, ap, ◌∙◌, inl, inr, arith}
+use Rattle.std.proofs.Common.{◌≡◌, ℕ, ◌+◌, ◌<◌, ◌≤◌, true, false, cond, ltb, List, [], ◌∷◌, ◌++◌, map, length, take, Some, None, Ok, Err, Option, Result, sym, refl, ap, ◌∙◌, inl, inr, arith}
 use Rattle.std.proofs.lemmas.List.{append-nil, append_assoc, map-append, length-map, length-append, length-take-le, take_all, take-append-le}
 use Rattle.std.proofs.lemmas.Bool.{both_ways, cases_lt, lt-ltb}
 use Rattle.vocabulary.specs.declared.refusal.Refusal.TheVariants.{Format}
@@ -7,7 +7,11 @@ use Rattle.texts.specs.declared.fault.Bad.{Bad}
 use Rattle.texts.specs.Cards.{workers_of}
 use Rattle.texts.specs.Lines.{kept_or, no_fields, number_at, and_then}
 use Rattle.texts.specs.Numbers.{number_of, within}
-use Rattle.texts.specs.Workers.{kept, byte_of, kept_all, kept_all_or}
+use Rattle.texts.specs.Workers.{byte_of, kept_all, kept_all_or}
+
+-- one worker more, if fewer than 65 are kept
+abbrev pub kept : List ℕ → ℕ → List ℕ
+kept ws w = cond (ltb (length ws) 65) (ws ++ byte_of w ∷ []) ws
 
 -- the fields xs, taken into a row that has the workers ws already
 abbrev pub gather : List ℕ → ℕ → List (List ℕ) → Result (List ℕ) Bad

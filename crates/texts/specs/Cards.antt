@@ -79,7 +79,7 @@ card_of p = and_then (size_of p) (λ _. and_then (line_at p) (λ l. and_then (ju
     and_then (line_at (after_line p)) (λ m. and_then (judged_line m (picker_line n (row_of m.bytes))) (λ c.
     and_then (end_of_text (after_line (after_line p))) (λ _. Ok c))))))
 
--- what a reading of a card gives: what the card says, or the fault
+-- what a reading of a card gives: what the card says, or the fault and no card
 abbrev pub card_read : Result Card Fault → Result CardSays Spot
 card_read (Ok c) = Ok (says c)
 card_read (Err f) = Err (spot_of f)

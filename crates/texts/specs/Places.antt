@@ -9,7 +9,7 @@ use Rattle.texts.specs.Cuts.{before, after, has}
 use Rattle.texts.specs.Faults.{Spot, spot_of}
 use Rattle.texts.specs.declared.fault.Fault.{Fault}
 
--- how far a text was read: the lines and the bytes that were read, and what is left
+-- how far a text was read: the lines and the bytes that were read, and what is left. A contract sees a reader as this.
 pub record Place : Type 0 where
   pub name : TextName
   -- where the text lies
@@ -20,6 +20,7 @@ pub record Place : Type 0 where
   pub start : ℕ
   pub rest : List ℕ
 
+-- a text before its first line
 abbrev pub opening : TextName → Bor (List ℕ) → Place
 opening name text = record { name = name; origin = text.ref_ptr; total = length text.now; lines = 0; start = 0; rest = text.now }
 

@@ -1,8 +1,9 @@
 -- The workers that a line of a card names, as they are kept until they fill a frame.
-use Rattle.std.specs.Prelude.{ℕ, min, cond, List, [], ◌∷◌, ◌++◌, map, length, take, Ok, Err, Result, nat_lt}
+use Rattle.std.specs.Prelude.{ℕ, min, List, map, take, Ok, Err, Result}
 use Rattle.arrayvec.specs.ArrayVec.{ArrayVec}
 use Rattle.texts.specs.declared.fault.Bad.{Bad}
 
+-- a row that was kept, by its workers alone
 abbrev pub row_or : Result (ArrayVec ℕ) Bad → Result (List ℕ) Bad
 row_or (Ok k) = Ok k.items
 row_or (Err b) = Err b
@@ -11,10 +12,7 @@ row_or (Err b) = Err b
 abbrev pub byte_of : ℕ → ℕ
 byte_of w = min w 255
 
--- one worker more; of a row that is too long for a frame, the first 65 are enough to show it
-abbrev pub kept : List ℕ → ℕ → List ℕ
-kept ws w = cond (nat_lt (length ws) 65) (ws ++ byte_of w ∷ []) ws
-
+-- of a row that is too long for a frame, the first 65 are enough to show it
 abbrev pub kept_all : List ℕ → List ℕ
 kept_all ws = take 65 (map byte_of ws)
 

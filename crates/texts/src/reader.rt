@@ -19,7 +19,14 @@ impl<'t> Model for Reader<'t> {
 
     ghost Value = { Place };
 
-    ghost view = { λ r. record { name = r.name; origin = r.text.ref_ptr; total = length r.text.now; lines = r.lines; start = r.at; rest = drop r.at r.text.now } };
+    ghost view = { λ r. record {
+      name = r.name;
+      origin = r.text.ref_ptr;
+      total = length r.text.now;
+      lines = r.lines;
+      start = r.at;
+      rest = drop r.at r.text.now;
+    } };
 
     ghost invariant = { λ r. record { within : r.at ≤ length r.text.now; counted : r.lines ≤ r.at } };
 }

@@ -45,11 +45,10 @@ fn frame_line(crew: Crew, fields: Fields<'_>) -> Result<Card, Bad>
     ensures { says_or result ≡ frame_line crew.n (row fields.entry) }
 {
     let workers = named(fields)?;
-    let workers = workers.as_slice();
     let mut frame = Frame::first(crew);
-    match frame.fill(workers) {
+    match frame.fill(&workers) {
         Ok(()) => Ok(Card::Frame(frame)),
-        Err(number) => Err(bad_worker(crew.size(), workers, number)),
+        Err(number) => Err(bad_worker(crew.size(), &workers, number)),
     }
 }
 

@@ -13,8 +13,8 @@ returns-in-Ok c =
     let filled = c.in-Ok.ensures.frame in
     let first = c.first-frame.ensures.same_crew in
     let frame = c.fill.new.self in
-    frame-says n frame.crew.n frame.len frame.at c.as_slice-workers.result.now frame.places (drop (length c.as_slice-workers.result.now) c.first-frame.result.places) (ap (λ k. k.n) (filled.same_crew ∙ first)) filled.row_length filled.at_first filled.row_placed (c.in-Ok.ensures.answer ∙ ap (λ k. judged k.n c.as_slice-workers.result.now) first)
-    ∙ ap (frame_of n) c.as_slice-workers.ensures.value
+    frame-says n frame.crew.n frame.len frame.at c.deref.result.now frame.places (drop (length c.deref.result.now) c.first-frame.result.places) (ap (λ k. k.n) (filled.same_crew ∙ first)) filled.row_length filled.at_first filled.row_placed (c.in-Ok.ensures.answer ∙ ap (λ k. judged k.n c.deref.result.now) first)
+    ∙ ap (frame_of n) c.deref.ensures.0
     ∙ frame-line n c.in_ok-workers.workers.items (workers_of v.taken v.left) c.args.crew.few c.in_ok-workers.ensures
 
 pub returns-in-Err : goal.returns-in-Err
@@ -22,6 +22,6 @@ returns-in-Err c =
     let n = c.args.crew.n in
     let v = row c.args.fields in
     c.bad_worker.ensures
-    ∙ ap (λ k. frame_of k c.as_slice-workers.result.now) c.size.ensures
-    ∙ ap (frame_of n) c.as_slice-workers.ensures.value
+    ∙ ap (λ k. frame_of k c.deref-in-Err.result.now) c.size.ensures
+    ∙ ap (frame_of n) c.deref-in-Err.ensures.0
     ∙ frame-line n c.in_ok-workers.workers.items (workers_of v.taken v.left) c.args.crew.few c.in_ok-workers.ensures
