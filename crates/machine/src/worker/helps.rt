@@ -16,35 +16,6 @@ use crate::worker::Worker;
 use vocabulary::kind::Kind;
 
 impl Worker {
-    // On to a stage, or else to the next worker of the loop.
-    fn on_or_next(&mut self, on: bool, stage: Stage, n: u8)
-        ensures { self.new ≡ (if on then goto self.old stage else next_worker n self.old) }
-    {
-        if on {
-            self.stage = stage;
-        } else {
-            self.next_worker(n);
-        }
-    }
-
-    // On to a stage, or else to the beginning of help_enq.
-    fn on_or_enq(&mut self, on: bool, stage: HelpEnqStage)
-        ensures { self.new ≡ (if on then goto self.old (Stage.HelpEnq stage) else to_help_enq self.old) }
-    {
-        self.stage = Stage::HelpEnq(if on { stage } else { HelpEnqStage::C1 });
-    }
-
-    // On to a stage, or else to the beginning of help_deq.
-    fn on_or_deq(&mut self, on: bool, stage: Stage)
-        ensures { self.new ≡ (if on then goto self.old stage else to_help_deq self.old) }
-    {
-        self.stage = if on {
-            stage
-        } else {
-            Stage::HelpDeq(HelpDeqStage::C1)
-        };
-    }
-
     // The order of the worker of the loop's index has its point.
     fn pointed(&self, number: u32, kind: Kind) -> Outcome
         ensures { result ≡ Outcome.Point number self.now.index kind }
@@ -62,27 +33,25 @@ impl Worker {
     {
         use crate::stage::HelpEnqStage::*;
         match (at, step.seen) {
-            (C1, Seen::Entry(e)) => self.on_or_next(
-                e.descriptor.pending,
-                Stage::HelpEnq(C2),
-                step.n,
-            ),
-            (C2, Seen::Entry(e)) => self.on_or_next(
-                e.descriptor.phase <= self.phase,
-                Stage::HelpEnq(P1),
-                step.n,
-            ),
+            (C1, Seen::Entry(e)) if e.descriptor.pending => self.stage = Stage::HelpEnq(C2),
+            (C2, Seen::Entry(e)) if e.descriptor.phase <= self.phase => {
+                self.stage = Stage::HelpEnq(P1);
+            }
+            (C1 | C2, Seen::Entry(_)) => self.next_worker(step.n),
             (P1, Seen::Place(l)) => self.read_tail(l, Stage::HelpEnq(P2)),
             (P2, Seen::Link(x)) => self.read_next(x, Stage::HelpEnq(P3)),
-            (P3, Seen::Place(l)) => {
-                if l == self.tail && self.next.is_some() {
-                    self.stage = Stage::FinishEnq(FinishEnqStage::E1, Return::HelpEnq);
-                } else {
-                    self.on_or_enq(l == self.tail, C1AfterP3);
-                }
+            (P3, Seen::Place(l)) if l != self.tail => self.stage = Stage::HelpEnq(C1),
+            (P3, Seen::Place(_)) if self.next.is_some() => {
+                self.stage = Stage::FinishEnq(FinishEnqStage::E1, Return::HelpEnq);
             }
-            (C1AfterP3, Seen::Entry(e)) => self.on_or_enq(e.descriptor.pending, C2AfterP3),
-            (C2AfterP3, Seen::Entry(e)) => self.on_or_enq(e.descriptor.phase <= self.phase, P4),
+            (P3, Seen::Place(_)) => self.stage = Stage::HelpEnq(C1AfterP3),
+            (C1AfterP3, Seen::Entry(e)) if e.descriptor.pending => {
+                self.stage = Stage::HelpEnq(C2AfterP3);
+            }
+            (C2AfterP3, Seen::Entry(e)) if e.descriptor.phase <= self.phase => {
+                self.stage = Stage::HelpEnq(P4);
+            }
+            (C1AfterP3 | C2AfterP3, Seen::Entry(_)) => self.stage = Stage::HelpEnq(C1),
             (P4, Seen::Entry(e)) => self.read_node(e.descriptor.node, Stage::HelpEnq(P5)),
             (P5, Seen::Held(true)) => {
                 self.stage = Stage::FinishEnq(FinishEnqStage::E1, Return::NextWorker);
@@ -100,16 +69,11 @@ impl Worker {
     {
         use crate::stage::HelpDeqStage::*;
         match (at, step.seen) {
-            (C1, Seen::Entry(e)) => self.on_or_next(
-                e.descriptor.pending,
-                Stage::HelpDeq(C2),
-                step.n,
-            ),
-            (C2, Seen::Entry(e)) => self.on_or_next(
-                e.descriptor.phase <= self.phase,
-                Stage::HelpDeq(T1),
-                step.n,
-            ),
+            (C1, Seen::Entry(e)) if e.descriptor.pending => self.stage = Stage::HelpDeq(C2),
+            (C2, Seen::Entry(e)) if e.descriptor.phase <= self.phase => {
+                self.stage = Stage::HelpDeq(T1);
+            }
+            (C1 | C2, Seen::Entry(_)) => self.next_worker(step.n),
             (T1, Seen::Place(h)) => self.read_head(h, Stage::HelpDeq(T2)),
             (T2, Seen::Place(l)) => self.read_tail(l, Stage::HelpDeq(T3)),
             (T3, Seen::Link(x)) => self.read_t3(x, step.number, Stage::HelpDeq(T4)),
@@ -136,12 +100,14 @@ impl Worker {
         use crate::stage::EmptyStage::*;
         match (at, step.seen) {
             (T5, Seen::Entry(e)) => self.save_count(e.count, Stage::Empty(T6)),
-            (T6, Seen::Place(l)) => self.on_or_deq(l == self.tail, Stage::Empty(C1)),
-            (C1, Seen::Entry(e)) => self.on_or_deq(e.descriptor.pending, Stage::Empty(C2)),
-            (C2, Seen::Entry(e)) => self.on_or_deq(
-                e.descriptor.phase <= self.phase,
-                Stage::Empty(T7),
-            ),
+            (T6, Seen::Place(l)) if l == self.tail => self.stage = Stage::Empty(C1),
+            (C1, Seen::Entry(e)) if e.descriptor.pending => self.stage = Stage::Empty(C2),
+            (C2, Seen::Entry(e)) if e.descriptor.phase <= self.phase => {
+                self.stage = Stage::Empty(T7);
+            }
+            (T6, Seen::Place(_)) | (C1 | C2, Seen::Entry(_)) => {
+                self.stage = Stage::HelpDeq(HelpDeqStage::C1);
+            }
             (T7, Seen::Entry(e)) => self.keep_phase(e.descriptor.phase, Stage::Empty(T8)),
             (T8, Seen::Held(held)) => {
                 self.stage = Stage::HelpDeq(HelpDeqStage::C1);
@@ -161,18 +127,18 @@ impl Worker {
         use crate::stage::TakeStage::*;
         match (at, step.seen) {
             (T9, Seen::Entry(e)) => self.read_claim(e.count, e.descriptor.node, Stage::Take(C1)),
-            (C1, Seen::Entry(e)) => self.on_or_next(e.descriptor.pending, Stage::Take(C2), step.n),
-            (C2, Seen::Entry(e)) => self.on_or_next(
-                e.descriptor.phase <= self.phase,
-                Stage::Take(T10),
-                step.n,
-            ),
+            (C1, Seen::Entry(e)) if e.descriptor.pending => self.stage = Stage::Take(C2),
+            (C2, Seen::Entry(e)) if e.descriptor.phase <= self.phase => {
+                self.stage = Stage::Take(T10);
+            }
+            (C1 | C2, Seen::Entry(_)) => self.next_worker(step.n),
             (T10, Seen::Place(h)) => {
                 let claims = h == self.head && self.node != Some(self.head);
                 self.stage = Stage::Take(if claims { T11 } else { T13 });
             }
             (T11, Seen::Entry(e)) => self.keep_phase(e.descriptor.phase, Stage::Take(T12)),
-            (T12, Seen::Held(held)) => self.on_or_deq(held, Stage::Take(T13)),
+            (T12, Seen::Held(true)) => self.stage = Stage::Take(T13),
+            (T12, Seen::Held(false)) => self.stage = Stage::HelpDeq(HelpDeqStage::C1),
             (T13, Seen::Held(held)) => {
                 self.stage = Stage::FinishDeq(FinishDeqStage::D1, Return::HelpDeq);
                 if held {
