@@ -1,4 +1,4 @@
-ghost use Rattle.std.specs.Prelude.{◌≡◌};
+ghost use Rattle.std.specs.Prelude.{◌≡◌, false};
 ghost use Rattle.texts.specs.Numbers.{number_of, signed_by, coordinate_of};
 
 // The largest number that ten digits write.
@@ -16,17 +16,17 @@ pub(crate) fn number(digits: &[u8]) -> Option<u64>
         if !b.is_ascii_digit() {
             return None;
         }
-        value = value * 10 + (*b - b'0') as u64;
+        value = value * 10 + u64::from(*b - b'0');
     }
     Some(value)
 }
 
-// A number as a coordinate of either sign; none beyond a hit's bounds.
-fn signed(minus: bool, number: Option<u64>) -> Option<i32>
-    ensures { result ≡ signed_by minus number }
+// The nanometres that a number writes; none of any other bytes, and none beyond a hit's bounds.
+fn nanometres(digits: &[u8]) -> Option<i32>
+    ensures { result ≡ signed_by false (number_of digits.now) }
 {
-    let c = number.filter(|n| *n <= 2_000_000)? as i32;
-    Some(if minus { -c } else { c })
+    let n = number(digits).filter(|n| *n <= 2_000_000)?;
+    Some(n as i32)
 }
 
 // The coordinate, in nanometres, that a number with or without a minus before it writes; none of any other bytes, and
@@ -35,7 +35,7 @@ pub(crate) fn coordinate(bytes: &[u8]) -> Option<i32>
     ensures { result ≡ coordinate_of bytes.now }
 {
     match bytes {
-        [b'-', digits @ ..] => signed(true, number(digits)),
-        _ => signed(false, number(bytes)),
+        [b'-', digits @ ..] => Some(-nanometres(digits)?),
+        _ => nanometres(bytes),
     }
 }
