@@ -1,6 +1,6 @@
 ghost use Rattle.std.specs.Prelude.{◌≡◌};
 
-// Lent bytes that lines are written to, one after another.
+// Lent bytes that lines are written to, one after another. The bytes are the host's, so they are no vector of ours.
 #[derive(Drop)]
 pub struct Output<'o> {
     bytes: &'o mut [u8],

@@ -10,6 +10,7 @@ pub enum OrderKind {
 #[derive(Clone, Copy)]
 pub struct Descriptor {
     pub phase: u32,
+    // a flag of its own: kind and node count whether or not the order is pending
     pub pending: bool,
     pub kind: OrderKind,
     // a post's node; of a fetch the node before the one whose element it gets, once it has one

@@ -5,6 +5,7 @@ use std::marker::Model;
 #[derive(Drop)]
 pub struct Reader<'t> {
     name: TextName,
+    // all of it and not its rest: size and address are of the whole text
     text: &'t [u8],
     // where the next line begins
     at: usize,

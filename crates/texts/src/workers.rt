@@ -23,7 +23,8 @@ pub(crate) fn named(mut fields: Fields<'_>) -> Result<ArrayVec<u8, MOST>, Bad>
     Ok(workers)
 }
 
-// The place of the first worker that is not below n; the row's length, if all are.
+// The place of the first worker that is not below n; the row's length, if all are, as its definition says: it is asked
+// only of a row that has such a worker.
 pub(crate) fn first_foreign(n: u8, row: &[u8]) -> usize
     ensures value { result ≡ first_foreign n row.now }
     ensures bound { result ≤ length row.now }

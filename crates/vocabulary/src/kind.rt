@@ -10,7 +10,7 @@ pub enum Kind {
 }
 
 impl Kind {
-    // The word that the ledger has for it.
+    // The word that the ledger has for it. It is no Display, since of what that writes no contract can speak.
     pub fn word(self) -> &'static str
         ensures { result.now ≡ word_of self }
     {
@@ -30,7 +30,7 @@ pub enum ElementKind {
 }
 
 impl ElementKind {
-    // The word that sheet and ledger have for it.
+    // The word that sheet and ledger have for it; no Display either.
     pub fn word(self) -> &'static str
         ensures { result.now ≡ element_word self }
     {

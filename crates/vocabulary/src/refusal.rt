@@ -29,7 +29,7 @@ pub enum Refusal {
 }
 
 impl Refusal {
-    // The number under which the refusal is told.
+    // The number under which the refusal is told; a method, as it is asked for by that name and nothing else goes by it.
     pub fn number(self) -> u8
         ensures { result ≡ number_of self }
     {

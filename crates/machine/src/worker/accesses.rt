@@ -122,7 +122,8 @@ impl Worker {
         }
     }
 
-    // The access that the worker of the number w makes next. A poster is looked up in the queue and costs no access.
+    // The access that the worker of the number w makes next. A poster is looked up in the queue and costs no access. Which
+    // part goes on is a stage and no closure: a stage is copied with its worker, and the definitions speak of it.
     pub(crate) fn access(&self, w: u8, queue: &Queue) -> Access
         ensures { result ≡ access_of (memory_of queue.now).poster w self.now }
     {

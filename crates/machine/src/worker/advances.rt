@@ -54,7 +54,8 @@ impl Worker {
         Outcome::Worked
     }
 
-    // The end of help_finish_deq.
+    // The end of help_finish_deq. It is not one function with the end of help_finish_enq: the last arms differ, and what an
+    // order's end is stands there.
     fn finished_deq(&mut self, n: u8, then: Return) -> Outcome
         ensures { record { worker = self.new; outcome = result } ≡ finished_deq n self.old then }
     {
@@ -148,7 +149,8 @@ impl Worker {
         }
     }
 
-    // Advances in what an order does for itself. Phases are far below the bound: they are at most the steps counted.
+    // Advances in what an order does for itself. Phases are far below the bound: they are at most the steps counted. That
+    // is a fact of the run and no invariant of a worker, whose scan raises its phase.
     pub(crate) fn order(&mut self, step: Step, at: OrderStage) -> Outcome
         requires { (self.old.phase < 2 ^ 31) × (phase_seen step.seen < 2 ^ 31) }
         ensures { record { worker = self.new; outcome = result } ≡ order_advance step.n self.old step.seen at }

@@ -150,8 +150,8 @@ impl Worker {
         Outcome::Worked
     }
 
-    // Advances in one step, by what its access saw. Phases are far below the bound: they are at most
-    // the steps counted.
+    // Advances in one step, by what its access saw. Phases are far below the bound: they are at most the steps counted.
+    // Which part goes on is a stage and no closure, as for its access.
     pub(crate) fn advance(&mut self, step: Step) -> Outcome
         requires { (self.old.phase < 2 ^ 31) × (phase_seen step.seen < 2 ^ 31) }
         ensures { record { worker = self.new; outcome = result } ≡ advance_of step.n step.number self.old step.seen }

@@ -46,6 +46,7 @@ impl Frame {
     {
         let n = crew.size();
         let mut places = [0; LONGEST];
+        // a worker's place is its own number
         for worker in 0..n {
             places[usize::from(worker)] = worker;
         }

@@ -46,6 +46,7 @@ fn frame_line(crew: Crew, fields: Fields<'_>) -> Result<Card, Bad>
 {
     let workers = named(fields)?;
     let mut frame = Frame::first(crew);
+    // a match: no proof was found of a `map_err` whose closure borrows the row
     match frame.fill(&workers) {
         Ok(()) => Ok(Card::Frame(frame)),
         Err(number) => Err(bad_worker(crew.size(), &workers, number)),

@@ -43,6 +43,7 @@ impl<'t> Line<'t> {
     pub(crate) fn judged<A>(&self, given: Result<A, Bad>) -> Result<A, Fault<'t>>
         ensures { placed result ≡ judged_line (line_spot self.now) given }
     {
+        // a match: of a closure that hands out a borrow a `map_err` tells nothing
         match given {
             Ok(value) => Ok(value),
             Err(bad) => Err(self.fault(bad)),

@@ -16,7 +16,8 @@ fn within(c: i32) -> bool
 }
 
 impl Hit {
-    // The hit of a landing: none of a lost one, and refused where a coordinate is out of bounds.
+    // The hit of a landing: none of a lost one, and refused where a coordinate is out of bounds. That there is none is no
+    // failure, so this is no TryFrom.
     pub fn of(landing: Landing) -> Result<Option<Hit>, Refusal>
         ensures { shown result ≡ hit_of landing }
     {
