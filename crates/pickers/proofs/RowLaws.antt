@@ -1,8 +1,7 @@
 -- What the checks of a row say: all workers below n are gone through from 0 on, and the row 0 1 .. n - 1 passes both checks.
-use Rattle.std.specs.Prelude.{◌≡◌, ℕ, zero, suc, ◌+◌, ◌<◌, ◌≤◌, true, ◌&&◌, List, [], ◌∷◌, ◌++◌, length, take, nat_lt, slice_set, refl, ◌==◌}
+use Rattle.std.specs.Prelude.{◌≡◌, ℕ, zero, suc, ◌+◌, ◌<◌, ◌≤◌, true, ◌&&◌, List, [], ◌∷◌, nat_lt, refl, ◌==◌}
 use Rattle.std.specs.List.{list_all, range_with_len}
-use Rattle.std.proofs.Common.{add-one, arith, ap, ◌∙◌}
-use Rattle.std.proofs.lemmas.List.{take_more_set}
+use Rattle.std.proofs.Common.{arith}
 use Rattle.std.proofs.lemmas.List.Folds.{list_all-append, list_any-append}
 use Rattle.std.proofs.lemmas.Bool.Decides.{nat_tests}
 use Rattle.pickers.specs.Frames.{names, all_below, all_named, up_to}
@@ -31,7 +30,3 @@ up_to-all_below n = all_below-up_to n n (omega arith)
 
 pub up_to-all_named : (n : ℕ) → all_named n (up_to n) ≡ true
 up_to-all_named n = all_named-from n (up_to n) (names-up_to n)
-
--- one more worker at the place after the row
-pub up_to-more : (places : List ℕ) (w : ℕ) → w < length places → take w places ≡ up_to w → take (w + 1) (slice_set places w w) ≡ up_to (w + 1)
-up_to-more places w l e = rw add-one (rw add-one at (take_more_set places w w l ∙ ap (λ ws. ws ++ w ∷ []) e))

@@ -1,13 +1,8 @@
--- Each turn places one more worker, and the row 0 1 .. n - 1 names every worker of the crew.
-use Rattle.std.proofs.Common.{◌≡◌, take, ap, ◌∙◌, arith, rules}
+-- The row 0 1 .. n - 1 names every worker of the crew.
+use Rattle.std.proofs.Common.{◌≡◌, take, ap, ◌∙◌, rules}
 use Rattle.pickers.specs.Frames.{all_below, all_named, up_to}
-use Rattle.pickers.proofs.RowLaws.{up_to-more, up_to-all_below, up_to-all_named}
+use Rattle.pickers.proofs.RowLaws.{up_to-all_below, up_to-all_named}
 use Rattle.pickers.proofs.frame.Frame.first.Goals as goal
-
-pub loop-worker-preserved : goal.loop-worker-preserved
-loop-worker-preserved c =
-    let more = up_to-more c.loop-worker.places c.loop-worker.worker (omega arith) c.loop-worker.invariant.1 in
-    search rules
 
 pub invariant_of-result : goal.invariant_of-result
 invariant_of-result c =
