@@ -1,5 +1,5 @@
 -- The workers that are kept of a line, and that they are judged as the line's own numbers are.
-use Rattle.std.proofs.Common.{◌≡◌, ℕ, zero, suc, ◌<◌, ◌≤◌, true, false, leb, ltb, List, [], ◌∷◌, map, length, Option, Some, None, cond, sym, refl, ap, ◌∙◌, inl, inr, arith}
+use Rattle.std.proofs.Common.{◌≡◌, ℕ, ◌<◌, ◌≤◌, true, false, leb, ltb, List, [], ◌∷◌, map, length, Option, Some, None, cond, sym, refl, ap, ◌∙◌, inl, inr, arith}
 use Rattle.std.proofs.lemmas.List.{take_all, length-take-le, length-map}
 use Rattle.std.specs.List.{position_or_len}
 use Rattle.std.specs.Option.{unwrap_or}
@@ -7,7 +7,7 @@ use Rattle.texts.proofs.CutLaws.{first-or-length}
 use Rattle.std.proofs.lemmas.List.Recursion.{is_position_or_len}
 use Rattle.std.proofs.lemmas.Bool.{and_parts, cases_Bool, cases_lt, ltb-true, lt-ltb, ne_eqb}
 use Rattle.std.proofs.lemmas.Bool.Decides.{nat_tests}
-use Rattle.pickers.specs.Frames.{names, all_below, all_named}
+use Rattle.pickers.specs.Frames.{all_below}
 use Rattle.texts.specs.Cards.{first_foreign, frame_of}
 use Rattle.texts.specs.Workers.{kept_all, byte_of}
 
@@ -23,14 +23,6 @@ below-bytes n (w ∷ ws) h = let r = below-bytes n ws h in grind (arith, nat_tes
 foreign-bytes : (n : ℕ) (ws : List ℕ) → n ≤ 255 → first_foreign n (map byte_of ws) ≡ first_foreign n ws
 foreign-bytes n [] h = refl
 foreign-bytes n (w ∷ ws) h = let r = foreign-bytes n ws h in grind (arith, nat_tests)
-
-names-bytes : (b : ℕ) (ws : List ℕ) → b < 255 → names (map byte_of ws) b ≡ names ws b
-names-bytes b [] h = refl
-names-bytes b (w ∷ ws) h = let r = names-bytes b ws h in grind (arith, nat_tests)
-
-named-bytes : (n : ℕ) (ws : List ℕ) → n ≤ 255 → all_named n (map byte_of ws) ≡ all_named n ws
-named-bytes zero ws h = refl
-named-bytes (suc n) ws h = let r = named-bytes n ws (omega arith) in rw (names-bytes n ws (omega arith), r) refl
 
 -- workers below n are their own bytes
 own-bytes : (n : ℕ) (ws : List ℕ) → n ≤ 255 → all_below n ws ≡ true → map byte_of ws ≡ ws
