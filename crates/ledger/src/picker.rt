@@ -9,7 +9,8 @@ pub enum PickerKind {
 }
 
 impl PickerKind {
-    // The word that the ledger has for it. It is no Display, since of what that writes no contract can speak.
+    // The word that the ledger has for it. A table of its own, and no Display: of what
+    // that writes no contract can speak.
     pub(crate) fn word(self) -> &'static str
         ensures { result.now ≡ picker_name self }
     {

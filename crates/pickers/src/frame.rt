@@ -11,7 +11,7 @@ const LONGEST: usize = 64;
 #[derive(Clone, Copy)]
 pub struct Frame {
     crew: Crew,
-    // the length of the row, which stands in the first places: an array of fixed size, that a frame is copied with
+    // the length of the row, which stands in the first places: no ArrayVec, since a frame is copied and that is not
     len: u8,
     // the place that is read next
     at: u8,

@@ -11,7 +11,8 @@ pub enum TextName {
 }
 
 impl TextName {
-    // The word that the ledger has for it. It is no Display, since of what that writes no contract can speak.
+    // The word that the ledger has for it. A table of its own, and no Display: of what
+    // that writes no contract can speak.
     pub fn word(self) -> &'static str
         ensures { result.now ≡ name_word self }
     {
@@ -29,7 +30,8 @@ pub struct Bad {
     pub number: Refusal,
 }
 
-// What is wrong with a text, and where. Lines and fields count from 1; both are 0 where the whole text is too long.
+// What is wrong with a text, and where. Lines and fields count from 1; both are 0 where the whole text is too long, as the
+// ledger tells it.
 // The part is the bad line without its byte 10, where it stands in the text that was lent. A plain record that callers
 // read, so it has no model.
 #[derive(Clone, Copy)]

@@ -58,11 +58,16 @@ fn kind_word(mut fields: Fields<'_>) -> Result<ElementKind, Bad>
     ensures { result ≡ kind_word (row fields.entry) }
 {
     let bad = fields.next_bad();
-    match fields.word()? {
-        b"bundle" => fields.end().and(Ok(ElementKind::Bundle)),
-        b"landing" => fields.end().and(Ok(ElementKind::Landing)),
-        _ => Err(bad),
-    }
+    let word = fields.word()?;
+    let kind = if word == ElementKind::Bundle.word().as_bytes() {
+        ElementKind::Bundle
+    } else if word == ElementKind::Landing.word().as_bytes() {
+        ElementKind::Landing
+    } else {
+        return Err(bad);
+    };
+    fields.end()?;
+    Ok(kind)
 }
 
 // What a sheet's first line says: which kind of element its posts bring.

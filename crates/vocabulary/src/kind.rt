@@ -10,7 +10,8 @@ pub enum Kind {
 }
 
 impl Kind {
-    // The word that the ledger has for it. It is no Display, since of what that writes no contract can speak.
+    // The word that the ledger has for it. A table of its own, and no Display: of what
+    // that writes no contract can speak.
     pub fn word(self) -> &'static str
         ensures { result.now ≡ word_of self }
     {
@@ -30,7 +31,7 @@ pub enum ElementKind {
 }
 
 impl ElementKind {
-    // The word that sheet and ledger have for it; no Display either.
+    // The word that sheet and ledger have for it; a table of its own too.
     pub fn word(self) -> &'static str
         ensures { result.now ≡ element_word self }
     {

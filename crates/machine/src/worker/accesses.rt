@@ -1,9 +1,8 @@
 // Which access a worker makes next, by its stage. A register that names a node or a worker is known to have one by then;
 // without one, 0 stands for it.
-ghost use Rattle.std.specs.Prelude.{◌≡◌};
+ghost use Rattle.std.specs.Prelude.{◌≡◌, false};
 ghost use Rattle.machine.specs.Accesses.{order_access, finish_enq_access, finish_deq_access, help_enq_access, help_deq_access, empty_access, take_access, access_of};
 ghost use Rattle.machine.specs.Queues.{memory_of};
-ghost use Rattle.machine.specs.declared.access.Access.{Access};
 
 use crate::access::Access;
 use crate::entry::{Descriptor, OrderKind};
@@ -15,17 +14,16 @@ use crate::stage::{
 use crate::worker::Worker;
 
 impl Worker {
-    // The exchange of the entry of k that keeps the phase that was read, if it was not written since the saved count.
-    fn exchange(&self, k: u8, pending: bool, kind: OrderKind, node: Option<u8>) -> Access
-        ensures { result ≡ Access.ExchangeEntry k self.now.saved (record { phase = self.now.kept_phase; pending = pending; kind = kind; node = node }) }
+    // The descriptor of an order whose effect is recorded, with the phase that was read.
+    fn recorded(&self, kind: OrderKind, node: Option<u8>) -> Descriptor
+        ensures { result ≡ record { phase = self.now.kept_phase; pending = false; kind = kind; node = node } }
     {
-        let descriptor = Descriptor {
+        Descriptor {
             phase: self.kept_phase,
-            pending,
+            pending: false,
             kind,
             node,
-        };
-        Access::ExchangeEntry(k, self.saved, descriptor)
+        }
     }
 
     // An order's own access; w is the worker's own number.
@@ -56,7 +54,9 @@ impl Worker {
             FinishEnqStage::E1 | FinishEnqStage::E4 => Access::ReadTail,
             FinishEnqStage::E2 => Access::ReadSuccessor(self.tail),
             FinishEnqStage::E3 | FinishEnqStage::E5 | FinishEnqStage::E6 => Access::ReadEntry(k),
-            FinishEnqStage::E7 => self.exchange(k, false, OrderKind::Post, self.next),
+            FinishEnqStage::E7 => {
+                Access::ExchangeEntry(k, self.saved, self.recorded(OrderKind::Post, self.next))
+            }
             FinishEnqStage::E8 => Access::ExchangeTail(self.tail, self.next.unwrap_or(0)),
         }
     }
@@ -70,7 +70,9 @@ impl Worker {
             FinishDeqStage::D2 => Access::ReadSuccessor(self.head),
             FinishDeqStage::D3 => Access::ReadTaker(self.head),
             FinishDeqStage::D4 | FinishDeqStage::D6 | FinishDeqStage::D7 => Access::ReadEntry(k),
-            FinishDeqStage::D8 => self.exchange(k, false, OrderKind::Fetch, self.node),
+            FinishDeqStage::D8 => {
+                Access::ExchangeEntry(k, self.saved, self.recorded(OrderKind::Fetch, self.node))
+            }
             FinishDeqStage::D9 => Access::ExchangeHead(self.head, self.next.unwrap_or(0)),
         }
     }
@@ -105,7 +107,13 @@ impl Worker {
     {
         match at {
             EmptyStage::T6 => Access::ReadTail,
-            EmptyStage::T8 => self.exchange(self.index, false, OrderKind::Fetch, None),
+            EmptyStage::T8 => {
+                Access::ExchangeEntry(
+                    self.index,
+                    self.saved,
+                    self.recorded(OrderKind::Fetch, None),
+                )
+            }
             _ => Access::ReadEntry(self.index),
         }
     }
@@ -116,7 +124,13 @@ impl Worker {
     {
         match at {
             TakeStage::T10 => Access::ReadHead,
-            TakeStage::T12 => { self.exchange(self.index, true, OrderKind::Fetch, Some(self.head)) }
+            TakeStage::T12 => {
+                let claimed = Descriptor {
+                    pending: true,
+                    ..self.recorded(OrderKind::Fetch, Some(self.head))
+                };
+                Access::ExchangeEntry(self.index, self.saved, claimed)
+            }
             TakeStage::T13 => Access::ExchangeTaker(self.head, self.index),
             _ => Access::ReadEntry(self.index),
         }

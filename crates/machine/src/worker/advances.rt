@@ -1,6 +1,6 @@
 // How a worker advances, by its stage and what its access saw. Where an access of another kind is handed in, it stays.
 ghost use Rattle.std.specs.Prelude.{◌≡◌, ◌+◌, ◌^◌, ◌<◌, nat_lt};
-ghost use Rattle.machine.specs.Advances.{next_worker, finished_enq, finished_deq, answered, scanned, phase_seen, order_advance, finish_enq_advance, finish_deq_advance};
+ghost use Rattle.machine.specs.Advances.{next_worker, finished_enq, finished_deq, answered, scanned, order_advance, finish_enq_advance, finish_deq_advance};
 
 use crate::access::{Outcome, Seen};
 use crate::entry::OrderKind;
@@ -54,8 +54,7 @@ impl Worker {
         Outcome::Worked
     }
 
-    // The end of help_finish_deq. It is not one function with the end of help_finish_enq: the last arms differ, and what an
-    // order's end is stands there.
+    // The end of help_finish_deq. One function for this and the end of help_finish_enq would be told what its last arm does.
     fn finished_deq(&mut self, n: u8, then: Return) -> Outcome
         ensures { record { worker = self.new; outcome = result } ≡ finished_deq n self.old then }
     {
@@ -149,10 +148,10 @@ impl Worker {
         }
     }
 
-    // Advances in what an order does for itself. Phases are far below the bound: they are at most the steps counted. That
-    // is a fact of the run and no invariant of a worker, whose scan raises its phase.
+    // Advances in what an order does for itself. Its phase is far below the bound: it is at most the steps counted. That is
+    // a fact of the run and no invariant of a worker, whose scan raises its phase by one.
     pub(crate) fn order(&mut self, step: Step, at: OrderStage) -> Outcome
-        requires { (self.old.phase < 2 ^ 31) × (phase_seen step.seen < 2 ^ 31) }
+        requires { self.old.phase < 2 ^ 31 }
         ensures { record { worker = self.new; outcome = result } ≡ order_advance step.n self.old step.seen at }
     {
         match (at, step.seen) {

@@ -1,6 +1,6 @@
 // How a worker advances in help_enq and help_deq, and in all.
 ghost use Rattle.std.specs.Prelude.{◌≡◌, ◌^◌, ◌<◌, if◌then◌else◌};
-ghost use Rattle.machine.specs.Advances.{next_worker, to_help_enq, to_help_deq, phase_seen};
+ghost use Rattle.machine.specs.Advances.{next_worker, to_help_enq, to_help_deq};
 ghost use Rattle.machine.specs.HelpAdvances.{help_enq_advance, help_deq_advance, empty_advance, take_advance, advance_of};
 ghost use Rattle.machine.specs.Registers.{goto};
 ghost use Rattle.machine.specs.declared.access.Outcome.{Outcome};
@@ -150,10 +150,10 @@ impl Worker {
         Outcome::Worked
     }
 
-    // Advances in one step, by what its access saw. Phases are far below the bound: they are at most the steps counted.
+    // Advances in one step, by what its access saw. Its phase is far below the bound: it is at most the steps counted.
     // Which part goes on is a stage and no closure, as for its access.
     pub(crate) fn advance(&mut self, step: Step) -> Outcome
-        requires { (self.old.phase < 2 ^ 31) × (phase_seen step.seen < 2 ^ 31) }
+        requires { self.old.phase < 2 ^ 31 }
         ensures { record { worker = self.new; outcome = result } ≡ advance_of step.n step.number self.old step.seen }
     {
         match self.stage {

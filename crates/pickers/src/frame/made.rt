@@ -46,7 +46,7 @@ impl Frame {
     {
         let n = crew.size();
         let mut places = [0; LONGEST];
-        // a worker's place is its own number
+        // a worker's place is its own number, so the index is what is written
         for worker in 0..n {
             places[usize::from(worker)] = worker;
         }
@@ -64,6 +64,7 @@ impl Frame {
         ensures frame { MatchResult result (λ _. Filled self.old workers.now self.new) (λ _. self.new ≡ self.old) }
     {
         judge(self.crew.size(), workers)?;
+        // out and back, since a field of a struct with invariants is not lent
         let mut places = self.places;
         places[..workers.len()].copy_from_slice(workers);
         self.places = places;
