@@ -8,17 +8,11 @@ pub(crate) const LARGEST: u64 = 9_999_999_999;
 pub(crate) fn number(digits: &[u8]) -> Option<u64>
     ensures { result ≡ number_of digits.now }
 {
-    if !(1..=10).contains(&digits.len()) {
+    // `parse` alone would take a plus and more digits.
+    if !(1..=10).contains(&digits.len()) || !digits.iter().all(|b| b.is_ascii_digit()) {
         return None;
     }
-    let mut value: u64 = 0;
-    for b in digits {
-        if !b.is_ascii_digit() {
-            return None;
-        }
-        value = value * 10 + u64::from(*b - b'0');
-    }
-    Some(value)
+    std::str::from_utf8(digits).ok()?.parse().ok()
 }
 
 // The nanometres that a number writes; none of any other bytes, and none beyond a hit's bounds.
