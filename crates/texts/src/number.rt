@@ -8,7 +8,7 @@ pub(crate) const LARGEST: u64 = 9_999_999_999;
 pub(crate) fn number(digits: &[u8]) -> Option<u64>
     ensures { result ≡ number_of digits.now }
 {
-    // `parse` alone would take a plus and more digits.
+    // `parse` alone would take a plus and more digits
     if !(1..=10).contains(&digits.len()) || !digits.iter().all(|b| b.is_ascii_digit()) {
         return None;
     }

@@ -1,3 +1,4 @@
+-- The tests of length and digits are the format's, and what passes them `parse` reads as the format does.
 use Rattle.std.proofs.Common.{rules, tests, arith, ◌≤◌, length}
 use Rattle.std.specs.Char.{is_ascii_digit}
 use Rattle.std.proofs.lemmas.Bool.Decides.{nat_tests}
