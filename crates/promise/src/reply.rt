@@ -1,7 +1,8 @@
 use vocabulary::kind::Kind;
 use vocabulary::refusal::Refusal;
 
-// The reply to a call. Steps are numbered from 1 as they are counted.
+// The reply to a call. Steps are numbered from 1 as they are counted. A refusal is one of the six and no `Err` around
+// the others, since an event tells them apart in one place.
 #[derive(Clone, Copy)]
 pub enum Reply<T> {
     // the call was refused and changed nothing

@@ -20,7 +20,8 @@ fn all_named(n: u8, row: &[u8]) -> bool
     (0..n).all(|worker| row.contains(&worker))
 }
 
-// Whether a frame of a crew of n can have the row, and if not, why.
+// Whether a frame of a crew of n can have the row, and if not, why. The crew's number and the row are together only while
+// a row is judged, so they are no struct.
 fn judge(n: u8, row: &[u8]) -> Result<(), Refusal>
     ensures { result ≡ judged n row.now }
 {

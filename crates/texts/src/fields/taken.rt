@@ -53,7 +53,7 @@ impl<'t> Fields<'t> {
         Err(bad)
     }
 
-    // The next field as a number from `low` to `high`.
+    // The next field as a number from `low` to `high`: two numbers and no range, since a RangeInclusive may be used up.
     pub(crate) fn number(&mut self, low: u64, high: u64) -> Result<u64, Bad>
         ensures value { result ≡ number_at low high (row self.old) }
         ensures bound { IfOk result (λ n. n ≤ high) }
