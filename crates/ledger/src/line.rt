@@ -7,8 +7,7 @@ use itoa::{Buffer, Integer};
 // The most bytes that a line has.
 const LONGEST: usize = 160;
 
-// A line as it is made. It has no model: it is copied, so one would have to show the places past the text too, which
-// `text_of` leaves out. How much room is left differs from call to call, so each asks for what it needs.
+// A line as it is made. It has no model: it is a public Copy type, and a view of its text alone has no inverse. How much room is left differs from call to call, so each asks for what it needs.
 #[derive(Clone, Copy)]
 pub struct Line {
     text: ArrayString<LONGEST>,

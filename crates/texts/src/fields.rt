@@ -1,8 +1,8 @@
 ghost use Rattle.std.specs.Prelude.{◌+◌, ◌^◌, ◌≤◌, length};
 ghost use Rattle.std.specs.Option.{option_map_or};
 
-// The fields of a line that are still to be handed out. It has no model: it is copied, since an element may read
-// the same fields in two ways, and a row of fields does not tell where the bytes lie.
+// The fields of a line that are still to be handed out. It has no model: it is Copy, as an element of
+// another crate may try two elements' readings of the same fields, and a model with a lifetime cannot be.
 #[derive(Clone, Copy)]
 pub struct Fields<'t> {
     // the bytes from the next field on; none, if no field is left

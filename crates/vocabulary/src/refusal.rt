@@ -29,7 +29,7 @@ pub enum Refusal {
 }
 
 impl Refusal {
-    // The number under which the refusal is told; a method, as it is asked for by that name and nothing else goes by it.
+    // The number under which the refusal is told. It is a method: a `From` would hide the rule's word, number.
     pub fn number(self) -> u8
         ensures { result ≡ number_of self }
     {

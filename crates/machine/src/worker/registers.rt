@@ -1,5 +1,5 @@
 // A worker's registers: each read goes into the register of its letter, and the worker goes on to a stage. One method a
-// register: a helper over any place would be the assignment itself.
+// register: a helper over any place would be the assignment itself, and written out they make the arms too long.
 ghost use Rattle.std.specs.Prelude.{◌≡◌};
 ghost use Rattle.machine.specs.Registers.{with_tail, with_head, with_next, with_node, with_taker, with_kept, with_saved, with_t3, with_claim};
 

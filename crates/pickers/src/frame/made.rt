@@ -47,7 +47,7 @@ impl Frame {
     {
         let n = crew.size();
         let mut places = [0; LONGEST];
-        // a worker's place is its own number, so the index is what is written
+        // tried: of `array::from_fn` the check does not know what it gives; and a worker's place is its own number
         for worker in 0..n {
             places[usize::from(worker)] = worker;
         }

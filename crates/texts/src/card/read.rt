@@ -26,7 +26,8 @@ fn crew_line(mut fields: Fields<'_>) -> Result<Crew, Bad>
     Crew::try_from(n).map_err(|number| Bad { field: 2, number })
 }
 
-// The field at which a row of workers, from field 3 on, is bad if it was refused.
+// The field at which a row of workers, from field 3 on, is bad if it was refused. No value has both the crew's number and
+// the row, which is lent for this call.
 fn bad_worker(n: u8, row: &[u8], number: Refusal) -> Bad
     requires { judged n row.now ≡ Err number }
     ensures { Err result ≡ frame_of n row.now }

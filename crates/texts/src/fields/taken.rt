@@ -101,7 +101,7 @@ impl<'t> Fields<'t> {
         Err(self.next_bad())
     }
 
-    // The last field as a number from `low` to `high`.
+    // The last field as a number from `low` to `high`, which are no range here either.
     pub(crate) fn last_number(mut self, low: u64, high: u64) -> Result<u64, Bad>
         ensures value { result ≡ last_number low high (row self.entry) }
         ensures bound { IfOk result (λ n. n ≤ high) }
