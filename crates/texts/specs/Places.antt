@@ -1,6 +1,8 @@
 -- A text read line by line: its lines, and the faults of a missing, unended or surplus line.
-use Rattle.std.specs.Prelude.{ℕ, ◌+◌, Bool, true, false, cond, List, [], ◌∷◌, length, Ok, Err, Result, nat_lt}
+use Rattle.std.specs.Prelude.{◌≡◌, ℕ, ◌+◌, ◌^◌, ◌<◌, ◌≤◌, Bool, true, false, cond, List, [], ◌∷◌, length, drop, Ok, Err, Result, nat_lt}
 use Rattle.std.specs.Borrow.{Bor}
+use Rattle.std.proofs.Common.{arith}
+use Rattle.std.proofs.lemmas.List.{length-drop}
 use Rattle.vocabulary.specs.declared.refusal.Refusal.TheVariants.{Format}
 use Rattle.texts.specs.declared.fault.Bad.{Bad}
 use Rattle.texts.specs.declared.fault.TextName.{TextName}
@@ -9,7 +11,7 @@ use Rattle.texts.specs.Cuts.{before, after, has}
 use Rattle.texts.specs.Faults.{Spot, spot_of}
 use Rattle.texts.specs.declared.fault.Fault.{Fault}
 
--- how far a text was read: the lines and the bytes that were read, and what is left. A contract sees a reader as this.
+-- how far a text was read: the lines and the bytes that were read, and what is left
 pub record Place : Type 0 where
   pub name : TextName
   -- where the text lies
@@ -19,6 +21,20 @@ pub record Place : Type 0 where
   pub lines : ℕ
   pub start : ℕ
   pub rest : List ℕ
+
+-- how a reader stands, as contracts see it: its place, and what is so of every reader's place
+pub record Standing : Type 0 where
+  pub place : Place
+  pub within : place.start ≤ place.total
+  pub left : length place.rest + place.start ≡ place.total
+  -- every line that was read has its byte 10
+  pub counted : place.lines ≤ place.start
+  -- no slice is longer
+  pub bounded : place.total < 2 ^ 63
+
+-- what is left of a text and what was read of it are all of it
+pub left-of : (xs : List ℕ) (a : ℕ) → a ≤ length xs → length (drop a xs) + a ≡ length xs
+left-of xs a l = omega (arith, length-drop a xs)
 
 -- a text before its first line
 abbrev pub opening : TextName → Bor (List ℕ) → Place

@@ -19,9 +19,9 @@ pub fn read_heads<'t>(
     text: &'t [u8],
     sheet: &mut Reader<'t>,
 ) -> Result<(Card, KindRead<'t>), Fault<'t>>
-    ensures value { placed (kind_in result) ≡ heads_of (card_of (opening TextName.Card text.entry)) sheet.old }
+    ensures value { placed (kind_in result) ≡ heads_of (card_of (opening TextName.Card text.entry)) sheet.old.place }
     ensures card { card_read (card_in result) ≡ card_of (opening TextName.Card text.entry) }
-    ensures after { sheet.new ≡ sheet_after (card_of (opening TextName.Card text.entry)) sheet.old }
+    ensures after { sheet.new.place ≡ sheet_after (card_of (opening TextName.Card text.entry)) sheet.old.place }
 {
     let card = Card::read(text)?;
     Ok((card, sheet.kind()))

@@ -1,3 +1,5 @@
+ghost use Rattle.std.specs.Prelude.{◌<◌, ◌≤◌, ◌^◌, length};
+
 use crate::fault::TextName;
 use std::marker::Model;
 
@@ -11,25 +13,32 @@ pub struct Reader<'t> {
     at: usize,
     // how many lines were handed out
     lines: usize,
+    ghost within: { at ≤ length text.now },
+    ghost counted: { lines ≤ at },
+    ghost bounded: { length text.now < 2 ^ 63 },
 }
 
-// A contract sees where the reader stands, and how much of the text is left.
+// A contract sees where the reader stands, how much of the text is left, and what is so of every reader's place.
 impl<'t> Model for Reader<'t> {
-    ghost use Rattle.std.specs.Prelude.{◌≤◌, length, drop};
-    ghost use Rattle.texts.specs.Places.{Place};
+    ghost use Rattle.std.specs.Prelude.{length, drop};
+    ghost use Rattle.texts.specs.Places.{Standing, left-of};
 
-    ghost Value = { Place };
+    ghost Value = { Standing };
 
     ghost view = { λ r. record {
-      name = r.name;
-      origin = r.text.ref_ptr;
-      total = length r.text.now;
-      lines = r.lines;
-      start = r.at;
-      rest = drop r.at r.text.now;
+      place = record {
+        name = r.name;
+        origin = r.text.ref_ptr;
+        total = length r.text.now;
+        lines = r.lines;
+        start = r.at;
+        rest = drop r.at r.text.now;
+      };
+      within = r.within;
+      left = left-of r.text.now r.at r.within;
+      counted = r.counted;
+      bounded = r.bounded;
     } };
-
-    ghost invariant = { λ r. record { within : r.at ≤ length r.text.now; counted : r.lines ≤ r.at } };
 }
 
 // A line without its byte 10: which text's, its number, and its bytes where they stand in that text.

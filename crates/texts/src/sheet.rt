@@ -81,15 +81,15 @@ fn kind_line(mut fields: Fields<'_>) -> Result<ElementKind, Bad>
 impl<'t> Reader<'t> {
     // A sheet before its first line.
     pub fn sheet(text: &'t [u8]) -> Reader<'t>
-        ensures { result ≡ opening TextName.Sheet text.entry }
+        ensures { result.place ≡ opening TextName.Sheet text.entry }
     {
         Reader::of(TextName::Sheet, text)
     }
 
     // The kind of element that the sheet's next line, the first, names. The sheet's size is judged before that line.
     pub fn kind(&mut self) -> Result<ElementKind, Fault<'t>>
-        ensures value { placed result ≡ kind_at self.old }
-        ensures after { self.new ≡ after_kind self.old }
+        ensures value { placed result ≡ kind_at self.old.place }
+        ensures after { self.new.place ≡ after_kind self.old.place }
     {
         self.size()?;
         let line = self.line()?;
@@ -98,8 +98,8 @@ impl<'t> Reader<'t> {
 
     // What the sheet's next line says, none at its end.
     pub fn next_line<T: Element>(&mut self) -> Result<Option<SheetLine<T>>, Fault<'t>>
-        ensures value { placed result ≡ sheet_line_at T.Element.reads self.old }
-        ensures after { self.new ≡ after_line self.old }
+        ensures value { placed result ≡ sheet_line_at T.Element.reads self.old.place }
+        ensures after { self.new.place ≡ after_line self.old.place }
     {
         if self.is_read() {
             return Ok(None);

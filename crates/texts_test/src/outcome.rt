@@ -28,7 +28,7 @@ impl fmt::Display for CardOutcome<'_> {
 
 // The first fault of a sheet from where it is read on, none if it is read to its end.
 fn first_fault<'t, T: Element + Copy>(sheet: &mut Reader<'t>) -> Option<Fault<'t>>
-    ensures { FirstFault T.Element.reads sheet.old (spotted result) sheet.new }
+    ensures { FirstFault T.Element.reads sheet.old.place (spotted result) sheet.new.place }
 {
     loop {
         match sheet.next_line::<T>() {

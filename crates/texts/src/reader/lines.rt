@@ -54,7 +54,7 @@ impl<'t> Line<'t> {
 impl<'t> Reader<'t> {
     // A text before its first line.
     pub(crate) fn of(name: TextName, text: &'t [u8]) -> Reader<'t>
-        ensures { result ≡ opening name text.entry }
+        ensures { result.place ≡ opening name text.entry }
     {
         Reader {
             name,
@@ -66,7 +66,7 @@ impl<'t> Reader<'t> {
 
     // That the text is not too long. A text that is too long is bad at line 0, field 0.
     pub(crate) fn size(&self) -> Result<(), Fault<'t>>
-        ensures { placed result ≡ size_of self.now }
+        ensures { placed result ≡ size_of self.now.place }
     {
         if self.text.len() > LONGEST {
             return Err(Fault {
@@ -82,14 +82,14 @@ impl<'t> Reader<'t> {
 
     // Whether no line is left.
     pub(crate) fn is_read(&self) -> bool
-        ensures { result ≡ all_read self.now.rest }
+        ensures { result ≡ all_read self.now.place.rest }
     {
         self.at == self.text.len()
     }
 
     // The next line as it stands, ended or not; at the text's end an empty one.
     fn whole_line(&self) -> Line<'t>
-        ensures { line_spot result ≡ whole_line self.now }
+        ensures { line_spot result ≡ whole_line self.now.place }
     {
         let rest = &self.text[self.at..];
         Line {
@@ -101,8 +101,8 @@ impl<'t> Reader<'t> {
 
     // The next line. It is a fault if there is none, or if it has no byte 10 at its end; the reader then stays.
     pub(crate) fn line(&mut self) -> Result<Line<'t>, Fault<'t>>
-        ensures value { lined result ≡ line_at self.old }
-        ensures after { self.new ≡ after_line self.old }
+        ensures value { lined result ≡ line_at self.old.place }
+        ensures after { self.new.place ≡ after_line self.old.place }
     {
         let line = self.whole_line();
         let end = self.at + line.bytes.len();
@@ -116,7 +116,7 @@ impl<'t> Reader<'t> {
 
     // That no line is left. A surplus line is a fault.
     pub(crate) fn end(&self) -> Result<(), Fault<'t>>
-        ensures { placed result ≡ end_of_text self.now }
+        ensures { placed result ≡ end_of_text self.now.place }
     {
         if self.is_read() {
             return Ok(());

@@ -17,16 +17,16 @@ returns-then-end-self c =
       after = rw no_end refl;
     })
 
-pub invariant_of-self : goal.invariant_of-self
-invariant_of-self c =
+pub invariant_of-self-inside : goal.invariant_of-self-inside
+invariant_of-self-inside c =
     let xs = c.self.inside.text.now in
     let at = c.self.inside.at in
     let n = length c.whole_line-line.result.bytes.now in
     let line = rw (← c.self.view_is) at c.whole_line-line.ensures in
     let here : length c.whole_line-line.result.bytes.now ≡ length (before 10 (drop at xs)) = ap (λ l. length l.bytes) line in
-    let l = line-within xs at n here c.self.invariant.within in
+    let l = line-within xs at n here c.self.inside.within in
     let ne = c.if-end-self.false in
-    record { within = grind arith; counted = omega (arith, c.self.invariant.counted) }
+    (grind arith, omega (arith, c.self.inside.counted))
 
 pub returns : goal.returns
 returns c =
@@ -35,7 +35,7 @@ returns c =
     let n = length c.whole_line-line.result.bytes.now in
     let line = rw (← c.self.view_is) at c.whole_line-line.ensures in
     let here : length c.whole_line-line.result.bytes.now ≡ length (before 10 (drop at xs)) = ap (λ l. length l.bytes) line in
-    let l = line-within xs at n here c.self.invariant.within in
+    let l = line-within xs at n here c.self.inside.within in
     let ne = c.if-end-self.false in
     let ended = line-ended xs at n here (grind arith) in
     rw (← c.self.view_is) (record {
