@@ -1,7 +1,6 @@
 pub mod CutLaws
 pub mod FrameLaws
 pub mod Gathers
-pub mod NumberLaws
 pub mod PlaceLaws
 pub mod RowLaws
 pub mod SheetLaws
