@@ -1,10 +1,10 @@
 -- A line: its fields, parted by tabs, and byte 10 at its end.
-use Rattle.std.specs.Prelude.{ℕ, List, [], ◌∷◌, ◌++◌}
+use Rattle.std.specs.Prelude.{ℕ, List, [], ◌∷◌, ◌++◌, take}
 use Rattle.ledger.specs.declared.line.Line.{Line}
 
 -- the bytes that the code's line has
 abbrev pub text_of : Line → List ℕ
-text_of l = l.text.bytes
+text_of l = take l.len l.bytes
 
 -- fields, each with a tab before it
 abbrev pub tabbed : List (List ℕ) → List ℕ

@@ -15,8 +15,8 @@ impl Line {
     {
         let mut line = Line::of("run");
         line.number(n);
-        line.field(kind.word());
-        line.field(picker.word());
+        line.field(kind.word().as_bytes());
+        line.field(picker.word().as_bytes());
         line.number(window);
         line.end();
         line
@@ -27,7 +27,7 @@ impl Line {
         ensures { text_of result ≡ fault_bytes fault.entry.text fault.entry.line fault.entry.field fault.entry.number }
     {
         let mut line = Line::of("fault");
-        line.field(fault.text.word());
+        line.field(fault.text.word().as_bytes());
         line.number(fault.line);
         line.number(fault.field);
         line.number(fault.number.number());

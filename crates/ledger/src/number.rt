@@ -12,6 +12,6 @@ pub fn write_number(out: &mut [u8], n: u64) -> Result<usize, Refusal>
     ensures held { out.new ≡ put_at 0 (decimal n) out.old }
 {
     let mut output = Output::over(out);
-    output.append(Buffer::new().format(n))?;
+    output.append(Buffer::new().format(n).as_bytes())?;
     Ok(output.len())
 }

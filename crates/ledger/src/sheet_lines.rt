@@ -25,7 +25,7 @@ fn post<T: Written>(worker: u8, element: &T) -> Line
 {
     let mut line = Line::of("post");
     line.number(worker);
-    line.field(element.fields().text());
+    line.field(element.fields().bytes());
     line.end();
     line
 }
@@ -36,7 +36,7 @@ impl Line {
         ensures { text_of result ≡ kind_bytes kind }
     {
         let mut line = Line::of("kind");
-        line.field(kind.word());
+        line.field(kind.word().as_bytes());
         line.end();
         line
     }

@@ -7,20 +7,20 @@ use crate::output::Output;
 use vocabulary::refusal::Refusal;
 
 impl<'o> Output<'o> {
-    // Writes a text after what is written: all of it, or nothing if it does not fit.
-    pub(crate) fn append(&mut self, text: &str) -> Result<(), Refusal>
-        ensures answer { result ≡ answer_of self.old.len text.now self.old.bytes.now }
-        ensures held { self.new.bytes.now ≡ put_at self.old.len text.now self.old.bytes.now }
-        ensures long { self.new.len ≡ len_after self.old.len text.now self.old.bytes.now }
+    // Writes bytes after those that are written: all of them, or none if they do not fit.
+    pub(crate) fn append(&mut self, bytes: &[u8]) -> Result<(), Refusal>
+        ensures answer { result ≡ answer_of self.old.len bytes.now self.old.bytes.now }
+        ensures held { self.new.bytes.now ≡ put_at self.old.len bytes.now self.old.bytes.now }
+        ensures long { self.new.len ≡ len_after self.old.len bytes.now self.old.bytes.now }
         ensures same { self.new.bytes.ghost_name ≡ self.old.bytes.ghost_name }
     {
         let start = self.len;
         let room = self.bytes.len();
         let end = start
-            .checked_add(text.len())
+            .checked_add(bytes.len())
             .filter(|end| *end <= room)
             .ok_or(Refusal::OutputFull)?;
-        self.bytes[start..end].copy_from_slice(text.as_bytes());
+        self.bytes[start..end].copy_from_slice(bytes);
         self.len = end;
         Ok(())
     }
@@ -33,6 +33,6 @@ impl<'o> Output<'o> {
         ensures long { self.new.len ≡ len_after self.old.len (text_of line.now) self.old.bytes.now }
         ensures same { self.new.bytes.ghost_name ≡ self.old.bytes.ghost_name }
     {
-        self.append(line.text())
+        self.append(line.bytes())
     }
 }
