@@ -15,11 +15,11 @@ use Rattle.machine.specs.Queues.{memory_of, blank_node}
 use Rattle.machine.specs.States.{blank_entry}
 
 -- a part f of each element
-view-set : {X Y : Type 0} (f : X → Y) (xs : List X) (j : ℕ) (v d : X) → j < length xs → ◌≡◌ {A = ℕ → Y} (λ i. f (get_or (set xs j v) i d)) (put (λ i. f (get_or xs i d)) j (f v))
+pub view-set : {X Y : Type 0} (f : X → Y) (xs : List X) (j : ℕ) (v d : X) → j < length xs → ◌≡◌ {A = ℕ → Y} (λ i. f (get_or (set xs j v) i d)) (put (λ i. f (get_or xs i d)) j (f v))
 view-set f xs j v d l = fun_ext (λ i. grind (arith, put-tells, get_or-set_same, get_or-set_other, cases_eq i j))
 
 -- a place that gets what it has
-put-kept : {X : Type 0} (f : ℕ → X) (j : ℕ) → put f j (f j) ≡ f
+pub put-kept : {X : Type 0} (f : ℕ → X) (j : ℕ) → put f j (f j) ≡ f
 put-kept f j = fun_ext (λ i. grind (arith, put-tells))
 
 -- a place that is set if it has none
@@ -32,7 +32,7 @@ module _ (q : Queue) where
   pub entry-written : (k : ℕ) (e : Entry) → k < length q.entries → memory_of (record q { entries = set q.entries k e }) ≡ record (memory_of q) { entry = put (memory_of q).entry k e }
   entry-written k e l = ap (λ (f : ℕ → Entry). record (memory_of q) { entry = f }) (view-set (λ x. x) q.entries k e blank_entry l)
 
-  node-written : (j : ℕ) (n : Node) → j < length q.nodes → memory_of (record q { nodes = set q.nodes j n }) ≡ record (memory_of q) { successor = put (memory_of q).successor j n.successor; taker = put (memory_of q).taker j n.taker; poster = put (memory_of q).poster j n.poster }
+  pub node-written : (j : ℕ) (n : Node) → j < length q.nodes → memory_of (record q { nodes = set q.nodes j n }) ≡ record (memory_of q) { successor = put (memory_of q).successor j n.successor; taker = put (memory_of q).taker j n.taker; poster = put (memory_of q).poster j n.poster }
   node-written j n l =
       let s = view-set (λ x. x.successor) q.nodes j n blank_node l in
       let t = view-set (λ x. x.taker) q.nodes j n blank_node l in
