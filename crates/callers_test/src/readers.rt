@@ -1,8 +1,9 @@
 ghost use Rattle.std.specs.Prelude.{◌≡◌, ◌+◌, ◌^◌, ◌<◌, ◌≤◌, length, IsOk};
 ghost use Rattle.std.specs.Option.{MatchOption};
 ghost use Rattle.texts.specs.Elements.{bundle_of};
-ghost use Rattle.texts.specs.Places.{after_line};
+ghost use Rattle.texts.specs.Places.{after_line, opening};
 ghost use Rattle.texts.specs.Sheets.{sheet_line_at};
+ghost use Rattle.texts.specs.declared.fault.TextName.{TextName};
 
 use texts::reader::Reader;
 use vocabulary::bundle::Bundle;
@@ -26,9 +27,10 @@ pub fn line_after_bad(reader: &mut Reader<'_>) -> Option<usize>
     Some(fault.line + 1)
 }
 
-// A sheet begun twice: the readers stand the same.
+// A sheet begun twice: both readers stand before its first line, and so the same.
 pub fn begun_twice(text: &[u8]) -> (Reader<'_>, Reader<'_>)
-    ensures { result.0 ≡ result.1 }
+    ensures begun { result.0.place ≡ opening TextName.Sheet text.entry }
+    ensures alike { result.0 ≡ result.1 }
 {
     (Reader::sheet(text), Reader::sheet(text))
 }
